@@ -1,0 +1,27 @@
+-- Laws of `lowest` and `after`: what an accepted call knows of its arguments, and what an accepted and a refused call owe.
+-- Assumes nothing.
+use mathlib.Core.Path.{_≡_, refl, sym, _∙_}
+use mathlib.Core.Bool.{Bool, true, false}
+use mathlib.Core.List.{List, [], _∷_}
+use Prim.Native.Nat.{ℕ}
+use native.Mathlib.Omega.{arith}
+use Rattle.answer.specs.Answer.{Answer, answers, refuses, lowest, after}
+
+-- where a call answers, the first number does not apply, and neither do the others
+pub passed : (b : Bool) (k : ℕ) (rs : List (Bool × ℕ)) (n m : ℕ) → answers m ≡ lowest ((b, k) ∷ rs) n → (b ≡ false) × (answers m ≡ lowest rs n)
+unfolding lowest
+passed true k rs n m e = absurd (let z : _≡_ {A = ℕ} 0 1 = cc in omega arith)
+passed false k rs n m e = (refl, e)
+
+-- where none applies, the call gives its answer
+pub the-answer : (n m : ℕ) → answers m ≡ lowest [] n → m ≡ n
+unfolding lowest
+the-answer n m e = cc
+
+-- a refused call keeps what it was lent
+pub kept : {A : Type 0} {a : Answer} {k : ℕ} (new old : List A) → refuses k ≡ a → old ≡ after a new old
+kept new old e = rw (sym e)
+
+-- an accepted call has written
+pub written : {A : Type 0} {a : Answer} {n : ℕ} {d new : List A} (old : List A) → answers n ≡ a → d ≡ new → d ≡ after a new old
+written old e h = rw (sym e) h

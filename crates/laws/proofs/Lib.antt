@@ -1,0 +1,11 @@
+pub mod Congruence
+pub mod Divide
+pub mod Integer
+pub mod Laid
+pub mod Place
+pub mod Ring
+pub mod Size
+pub mod Store
+pub mod Sum
+pub mod Table
+pub mod Wrap
