@@ -1,11 +1,12 @@
 -- Laws of `lowest` and `after`: what an accepted call knows of its arguments, and what an accepted and a refused call owe.
 -- Assumes nothing.
 use mathlib.Core.Path.{_≡_, refl, sym, _∙_}
-use mathlib.Core.Bool.{Bool, true, false}
+use mathlib.Core.Bool.{Bool, true, false, cond}
 use mathlib.Core.List.{List, [], _∷_}
-use Prim.Native.Nat.{ℕ}
+use Prim.Native.Nat.{ℕ, _<_, _^_}
 use native.Mathlib.Omega.{arith}
-use Rattle.answer.specs.Answer.{Answer, answers, refuses, lowest, after}
+use lib.Dec.{T, lt→ltb}
+use Rattle.answer.specs.Answer.{Answer, answers, refuses, lowest, after, isSmall}
 
 -- where a call answers, the first number does not apply, and neither do the others
 pub passed : (b : Bool) (k : ℕ) (rs : List (Bool × ℕ)) (n m : ℕ) → answers m ≡ lowest ((b, k) ∷ rs) n → (b ≡ false) × (answers m ≡ lowest rs n)
@@ -25,3 +26,13 @@ kept new old e = rw (sym e)
 -- an accepted call has written
 pub written : {A : Type 0} {a : Answer} {n : ℕ} {d new : List A} (old : List A) → answers n ≡ a → d ≡ new → d ≡ after a new old
 written old e h = rw (sym e) h
+
+-- a call whose answer is small gives back something small
+pub lowest-small : (rs : List (Bool × ℕ)) (n : ℕ) → n < 2 ^ 63 → T (isSmall (lowest rs n))
+unfolding lowest
+lowest-small [] n h = lt→ltb n (2 ^ 63) h
+lowest-small (r ∷ rs) n h = pick (r .0) (r .1) (lowest rs n) (lowest-small rs n h)
+  where
+    pick : (b : Bool) (k : ℕ) (a : Answer) → T (isSmall a) → T (isSmall (cond b (refuses k) a))
+    pick true k a t = tt
+    pick false k a t = t

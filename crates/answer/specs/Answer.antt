@@ -1,7 +1,9 @@
 -- What a call gives back, in document 01's numbers, and which number a refused call gives ("Numbers a call gives back").
 use mathlib.Core.Bool.{Bool, true, false, cond}
 use mathlib.Core.List.{List, [], _∷_}
-use Prim.Native.Nat.{ℕ}
+use Prim.Native.Nat.{ℕ, _^_}
+use lib.Dec.{ltb}
+use lib.IntN.{ℤ, pos, negℤ}
 use Rattle.answer.specs.declared.Refusal.{Refusal}
 use Rattle.answer.specs.declared.Refusal.the-variants.{BadSize, BadKind, ShortBuffer, ResidualRange, BatchRange, BatchOrder, BadSetting, ScanRange, CoefficientRange}
 use Rattle.answer.specs.declared.Outcome.{Outcome}
@@ -39,3 +41,13 @@ lowest (r ∷ rs) answer = cond (r .0) (refuses (r .1)) (lowest rs answer)
 abbrev pub after : {A : Type 0} → Answer → List A → List A → List A
 after (answers n) new old = new
 after (refuses k) new old = old
+
+-- what a call gives back as one signed number: 0 or more for an answer, minus document 01's number for a refusal
+abbrev pub signedOf : Answer → ℤ
+signedOf (answers n) = pos n
+signedOf (refuses k) = negℤ (pos k)
+
+-- an answer that has such a number of 64 bits
+abbrev pub isSmall : Answer → Bool
+isSmall (answers n) = ltb n (2 ^ 63)
+isSmall (refuses k) = true

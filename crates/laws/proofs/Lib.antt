@@ -1,3 +1,4 @@
+pub mod Bool
 pub mod Congruence
 pub mod Divide
 pub mod Integer

@@ -1,0 +1,1 @@
+include!(env!("ORACLE_QUANT"));

@@ -1,0 +1,41 @@
+//! Passes over 32 lines: in lanes of 8, 4 and 1, and by the plain call.
+
+use super::timing::row;
+use crate::av2::fdct;
+use crate::oracle::{ADST, KERNELS};
+use crate::probe::passes as ours;
+use crate::random::Random;
+use crate::samples::residuals;
+use std::hint::black_box;
+
+const LINES: usize = 32;
+const SHIFT: i32 = 3;
+
+pub fn rows() {
+    for (kind, side) in KERNELS {
+        let name = if kind == ADST { "ADST" } else { "DCT" };
+        let src = residuals(&mut Random::new(5), side * LINES, 4095);
+        let (mut theirs, mut dst) = (vec![0; side * LINES], vec![0; side * LINES]);
+        let mut rust = || {
+            let (side, lines) = black_box((side, LINES));
+            fdct::pass(kind == ADST, side, black_box(SHIFT), lines, black_box(&src), black_box(&mut theirs));
+        };
+        for lanes in [8, 4, 1] {
+            row(&format!("{name}{side} pass, lanes of {lanes}"), &mut rust, || {
+                let (kernel, lanes) = black_box(((side, kind, SHIFT), lanes));
+                for start in (0..LINES).step_by(lanes) {
+                    let _ = ours::lanes(kernel, (LINES, start, lanes), black_box(&src), black_box(&mut dst));
+                }
+            });
+        }
+        row(&format!("{name}{side} pass, plain"), &mut rust, || {
+            let (side, kind, shift) = black_box((side, kind, SHIFT));
+            let _ = black_box(ours::pass(side, kind, shift, LINES, black_box(&src), black_box(&mut dst)));
+        });
+        #[cfg(feature = "interface")]
+        row(&format!("{name}{side} pass, C interface"), &mut rust, || {
+            let (side, kind, shift) = black_box((side, kind, SHIFT));
+            let _ = black_box(crate::mizdrek::pass(side, kind, shift, LINES, black_box(&src), black_box(&mut dst)));
+        });
+    }
+}

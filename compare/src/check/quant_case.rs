@@ -1,0 +1,132 @@
+//! The arguments of the quantizer, good and bad.
+
+use super::scans::any_scan;
+use crate::difference::Input;
+use crate::mizdrek::{Refusal, Settings};
+use crate::oracle::SIDES;
+use crate::random::Random;
+use crate::rules::levels::{self, COEFFICIENT_LIMIT, Card};
+use crate::samples::length;
+use crate::settings::{bad_card, bad_step, good_card, good_step};
+
+#[derive(Clone)]
+pub struct QuantCase {
+    pub width: usize,
+    pub step: u32,
+    pub card: Card,
+    pub coefficients: Vec<i32>,
+    pub scan: Vec<u16>,
+    pub levels: Vec<f32>,
+    pub magnitudes: Vec<f32>,
+}
+
+impl QuantCase {
+    /// A random case, mostly one that is accepted.
+    pub fn any(random: &mut Random) -> QuantCase {
+        let width = random.pick(&SIDES);
+        let held = coefficient_count(random, width);
+        let coefficients = coefficients(random, held);
+        let scan = any_scan(random, width, held);
+        let step = good_step(random);
+        let mut card = good_card(random);
+        if random.once_in(3) && held > 0 {
+            let coefficient = random.pick(&coefficients);
+            card = at_threshold(random, step, card, coefficient);
+        }
+        let [levels, magnitudes] = [(); 2].map(|_| {
+            let count = length(random, scan.len(), 30);
+            floats(random, count)
+        });
+        let mut case = QuantCase { width, step, card, coefficients, scan, levels, magnitudes };
+        case.spoil(random);
+        case
+    }
+
+    /// Makes an argument bad, one time in six.
+    fn spoil(&mut self, random: &mut Random) {
+        let places = levels::places(self.width, &self.scan);
+        match random.below(30) {
+            0 => self.width = random.below(70),
+            1 => self.step = bad_step(random),
+            2 => self.card = bad_card(random),
+            3 if !self.scan.is_empty() => {
+                let entry = random.below(self.scan.len());
+                self.scan[entry] = random.next() as u16;
+            }
+            4 if !places.is_empty() => {
+                if let Some(named) = self.coefficients.get_mut(random.pick(&places)) {
+                    *named = bad_coefficient(random);
+                }
+            }
+            _ => {}
+        }
+    }
+
+    pub fn settings(&self) -> Settings {
+        settings(self.card)
+    }
+
+    /// The scan length, or what the call is refused for.
+    pub fn expected(&self) -> Result<usize, Refusal> {
+        let lengths = [self.levels.len(), self.magnitudes.len()];
+        levels::scan(self.width, (self.step, self.card), &self.coefficients, &self.scan, lengths)
+    }
+
+    pub fn inputs(&self) -> [Input<'_>; 7] {
+        [
+            ("width", &self.width),
+            ("step", &self.step),
+            ("factor, threshold, dead zone", &self.card),
+            ("coefficients", &self.coefficients),
+            ("scan", &self.scan),
+            ("levels before", &self.levels),
+            ("magnitudes before", &self.magnitudes),
+        ]
+    }
+}
+
+pub fn settings([factor, threshold, dead_zone]: Card) -> Settings {
+    Settings { factor, threshold, dead_zone }
+}
+
+/// How many coefficients are lent.
+fn coefficient_count(random: &mut Random, width: usize) -> usize {
+    match random.below(12) {
+        0 => random.below(40),
+        1 => random.below(5000),
+        2 => random.pick(&[0, 1, 1023, 1025, 3040, 65_535, 65_536, 65_600]),
+        _ => width * random.pick(&SIDES),
+    }
+}
+
+/// Coefficients within their limit.
+fn coefficients(random: &mut Random, count: usize) -> Vec<i32> {
+    let coarse = random.below(22);
+    (0..count).map(|_| good_coefficient(random, coarse)).collect()
+}
+
+/// A coefficient within the limit; the coarser, the smaller.
+pub fn good_coefficient(random: &mut Random, coarse: usize) -> i32 {
+    if random.once_in(16) {
+        return random.pick(&[0, 1, -1, COEFFICIENT_LIMIT, -COEFFICIENT_LIMIT, COEFFICIENT_LIMIT - 1]);
+    }
+    let limit = i64::from(COEFFICIENT_LIMIT) >> coarse;
+    random.within(-limit, limit) as i32
+}
+
+pub fn bad_coefficient(random: &mut Random) -> i32 {
+    random.pick(&[COEFFICIENT_LIMIT + 1, -COEFFICIENT_LIMIT - 1, i32::MIN, i32::MAX])
+}
+
+/// The card with its threshold at the magnitude of a coefficient, or next to it.
+pub fn at_threshold(random: &mut Random, step: u32, card: Card, coefficient: i32) -> Card {
+    let [factor, _, dead_zone] = card;
+    let magnitude = (coefficient as f32 * (factor / step as f32)).abs();
+    let threshold = random.pick(&[magnitude, magnitude.next_up(), magnitude.next_down()]);
+    if (0.0..=1_048_576.0).contains(&threshold) { [factor, threshold, dead_zone] } else { card }
+}
+
+/// Any bit patterns: what levels and magnitudes hold before a call.
+pub fn floats(random: &mut Random, count: usize) -> Vec<f32> {
+    (0..count).map(|_| f32::from_bits(random.next() as u32)).collect()
+}

@@ -1,0 +1,83 @@
+//! The seven kernel tables, the sixteen pairs of shifts and the DC scale.
+
+use super::Run;
+use crate::av2::fdct;
+use crate::difference::{Difference, same};
+use crate::mizdrek::Refusal;
+use crate::oracle::{self, SIDES};
+use crate::probe::tables as ours;
+use crate::random::Random;
+
+/// Every side below this is tried beside the four that there are.
+const SIDES_TRIED: usize = 70;
+
+pub fn compare(run: &mut Run) -> Result<(), Difference> {
+    for kind in 0..4 {
+        for side in 0..SIDES_TRIED {
+            kernels(run, kind, side)?;
+        }
+    }
+    for w in 0..SIDES_TRIED {
+        for h in 0..SIDES_TRIED {
+            size(run, w, h)?;
+        }
+    }
+    for _ in 0..run.count {
+        let w = any_size(&mut run.random);
+        let h = any_size(&mut run.random);
+        size(run, w, h)?;
+        let kind = any_size(&mut run.random) as u32;
+        let f = any_size(&mut run.random);
+        let k = any_size(&mut run.random);
+        kernel(run, kind, w, f, k)?;
+    }
+    Ok(())
+}
+
+/// Every number of one table, and a little past its last row and column.
+fn kernels(run: &mut Run, kind: u32, side: usize) -> Result<(), Difference> {
+    let past = if oracle::has_kernel(kind, side) { side + 2 } else { 2 };
+    for f in 0..past {
+        for k in 0..past {
+            kernel(run, kind, side, f, k)?;
+        }
+    }
+    Ok(())
+}
+
+fn kernel(run: &mut Run, kind: u32, side: usize, f: usize, k: usize) -> Result<(), Difference> {
+    run.case();
+    same("the kernel number", oracle::kernel(kind, side, f, k), ours::kernel(kind, side, f, k))
+        .map_err(|d| d.of("probe_kernel", &[("kind", &kind), ("side", &side), ("f", &f), ("k", &k)]))
+}
+
+fn size(run: &mut Run, w: usize, h: usize) -> Result<(), Difference> {
+    let known = SIDES.contains(&w) && SIDES.contains(&h);
+    let (shifts, scale) = if known {
+        let (first, second) = fdct::fwd_shifts(w, h);
+        ((first * 16 + second) as u32, Ok(fdct::dc_tx_scale(w, h) as usize))
+    } else {
+        (0, Err(Refusal::BadSize))
+    };
+    let inputs: [(&str, &dyn std::fmt::Debug); 2] = [("w", &w), ("h", &h)];
+    run.case();
+    same("the shifts", shifts, ours::shifts(w, h)).map_err(|d| d.of("probe_shifts", &inputs))?;
+    run.case();
+    same("the answer", scale, ours::dc_tx_scale(w, h)).map_err(|d| d.of("probe_dc_tx_scale", &inputs))?;
+    #[cfg(feature = "interface")]
+    {
+        run.case();
+        same("the answer", scale, crate::mizdrek::dc_tx_scale(w, h))
+            .map_err(|d| d.of("mizdrek_dc_tx_scale", &inputs))?;
+    }
+    Ok(())
+}
+
+/// A size of any magnitude, with the four sides among them.
+fn any_size(random: &mut Random) -> usize {
+    match random.below(3) {
+        0 => random.pick(&SIDES),
+        1 => random.below(64),
+        _ => (random.next() >> random.below(64)) as usize,
+    }
+}

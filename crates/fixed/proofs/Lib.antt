@@ -1,0 +1,3 @@
+pub mod Machine
+pub mod Round
+pub mod Scale

@@ -1,0 +1,3 @@
+pub mod Dct
+pub mod Mirror
+pub mod RowSize

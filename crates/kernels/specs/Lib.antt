@@ -1,0 +1,3 @@
+pub mod Adst
+pub mod Dct
+pub mod Kernel
