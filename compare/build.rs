@@ -20,6 +20,7 @@ const PROBE: [&str; 2] = ["TABLES", "PASSES"];
 fn main() {
     let manifest = PathBuf::from(env::var_os("CARGO_MANIFEST_DIR").expect("cargo names the folder"));
     let root = manifest.join("..");
+    println!("cargo:rerun-if-changed=build.rs");
     find_oracle(&root.join("../shared/docs/src"));
     if any(&PROBE) {
         link(&root, "probe");

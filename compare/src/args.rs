@@ -3,7 +3,8 @@
 pub const USAGE: &str = "\
 compare [check] [--seed N] [--count N] [GROUP..]   compare both sides on the same inputs
 compare bench [GROUP..]                            time both sides, print the ratios ours/Rust
-compare vectors [--seed N]                         write the Rust's answers that `vectors` replays";
+compare vectors [--seed N]                         write the Rust's answers that `vectors` replays
+groups: tables passes blocks tickets wht quant";
 
 #[derive(Clone, Copy, PartialEq, Eq)]
 pub enum Mode {

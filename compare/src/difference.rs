@@ -19,8 +19,7 @@ impl Difference {
     /// Names the call and all its arguments.
     pub fn of(mut self, call: &str, inputs: &[Input]) -> Difference {
         self.call = call.to_string();
-        self.inputs =
-            inputs.iter().map(|(name, value)| (name.to_string(), format!("{value:?}"))).collect();
+        self.inputs = inputs.iter().map(|(name, value)| (name.to_string(), format!("{value:?}"))).collect();
         self
     }
 

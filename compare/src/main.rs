@@ -3,7 +3,7 @@
 
 #![deny(unsafe_code)]
 // Where a group is left out, what only it uses is idle.
-#![cfg_attr(not(feature = "all"), allow(dead_code))]
+#![cfg_attr(not(feature = "all"), allow(dead_code, unused_imports))]
 
 mod args;
 mod av2;
@@ -34,7 +34,9 @@ fn main() -> ExitCode {
         }
     };
     match args.mode {
-        Mode::Check if !check::compare(&args.groups, args.seed, args.count) => return ExitCode::FAILURE,
+        Mode::Check if !check::compare(&args.groups, args.seed, args.count) => {
+            return ExitCode::FAILURE;
+        }
         Mode::Check => {}
         Mode::Bench => bench::bench(&args.groups),
         Mode::Vectors => vectors::write(args.seed),

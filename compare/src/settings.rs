@@ -9,8 +9,14 @@ const MOST_THRESHOLD: f32 = 1_048_576.0;
 const LEAST_FLOAT: f32 = f32::from_bits(1);
 
 /// Numbers that no range has.
-const NOWHERE: [f32; 6] =
-    [f32::NAN, f32::from_bits(0xffc0_0001), f32::INFINITY, f32::NEG_INFINITY, -1.0, f32::from_bits(0x7f80_0001)];
+const NOWHERE: [f32; 6] = [
+    f32::NAN,
+    f32::from_bits(0xffc0_0001),
+    f32::INFINITY,
+    f32::NEG_INFINITY,
+    -1.0,
+    f32::from_bits(0x7f80_0001),
+];
 
 pub fn good_step(random: &mut Random) -> u32 {
     match random.below(4) {

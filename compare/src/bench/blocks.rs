@@ -23,7 +23,13 @@ pub fn rows() {
             || {
                 let (size, kinds) = black_box((size, kinds));
                 let given = black_box(&given);
-                let _ = black_box(mizdrek::block(size, kinds, given, black_box(&mut scratch), black_box(&mut output)));
+                let _ = black_box(mizdrek::block(
+                    size,
+                    kinds,
+                    given,
+                    black_box(&mut scratch),
+                    black_box(&mut output),
+                ));
             },
         );
     }

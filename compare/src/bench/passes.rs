@@ -35,7 +35,14 @@ pub fn rows() {
         #[cfg(feature = "interface")]
         row(&format!("{name}{side} pass, C interface"), &mut rust, || {
             let (side, kind, shift) = black_box((side, kind, SHIFT));
-            let _ = black_box(crate::mizdrek::pass(side, kind, shift, LINES, black_box(&src), black_box(&mut dst)));
+            let _ = black_box(crate::mizdrek::pass(
+                side,
+                kind,
+                shift,
+                LINES,
+                black_box(&src),
+                black_box(&mut dst),
+            ));
         });
     }
 }

@@ -1,4 +1,4 @@
-//! One row of the table: both sides timed in turn, the median of each.
+//! One row of the table: both sides timed in turn.
 
 use std::time::{Duration, Instant};
 
@@ -8,37 +8,37 @@ const ROUNDS: usize = 31;
 /// About how long each timing takes.
 const ROUND: Duration = Duration::from_millis(1);
 
-/// Times both and prints the row.
+/// Times both and prints the row: the median time of each side, and the median of the rounds' ratios.
 pub fn row(label: &str, mut rust: impl FnMut(), mut ours: impl FnMut()) {
-    let turns = turns(&mut rust).max(turns(&mut ours));
-    let (mut rust_times, mut our_times) = (Vec::new(), Vec::new());
-    for _ in 0..ROUNDS {
-        rust_times.push(time(turns, &mut rust));
-        our_times.push(time(turns, &mut ours));
-    }
-    let [rust, ours] = [rust_times, our_times].map(|times| median(times) / f64::from(turns));
-    println!("{label:34} {rust:>10.1} {ours:>10.1} {:>6.2}", ours / rust);
+    let (rust_turns, our_turns) = (turns(&mut rust), turns(&mut ours));
+    let rounds = (0..ROUNDS).map(|_| (time(rust_turns, &mut rust), time(our_turns, &mut ours)));
+    let rounds: Vec<(f64, f64)> = rounds.collect();
+    let rust = median(rounds.iter().map(|round| round.0));
+    let ours = median(rounds.iter().map(|round| round.1));
+    let ratio = median(rounds.iter().map(|(rust, ours)| ours / rust));
+    println!("{label:34} {rust:>10.1} {ours:>10.1} {ratio:>6.2}");
 }
 
 /// How many calls take about one round.
 fn turns(call: &mut impl FnMut()) -> u32 {
     let mut turns = 1;
-    while time(turns, call) < ROUND.as_nanos() as f64 {
+    while time(turns, call) * f64::from(turns) < ROUND.as_nanos() as f64 {
         turns *= 2;
     }
     turns
 }
 
-/// Nanoseconds of so many calls.
+/// Nanoseconds of one of so many calls.
 fn time(turns: u32, call: &mut impl FnMut()) -> f64 {
     let start = Instant::now();
     for _ in 0..turns {
         call();
     }
-    start.elapsed().as_nanos() as f64
+    start.elapsed().as_nanos() as f64 / f64::from(turns)
 }
 
-fn median(mut times: Vec<f64>) -> f64 {
-    times.sort_by(f64::total_cmp);
-    times[times.len() / 2]
+fn median(numbers: impl Iterator<Item = f64>) -> f64 {
+    let mut numbers: Vec<f64> = numbers.collect();
+    numbers.sort_by(f64::total_cmp);
+    numbers[numbers.len() / 2]
 }

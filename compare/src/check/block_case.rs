@@ -18,7 +18,12 @@ pub struct BlockCase {
 
 impl BlockCase {
     /// A block with buffers a little longer than needed.
-    pub fn roomy(random: &mut Random, size: (usize, usize), kinds: [u32; 2], residuals: Vec<i32>) -> BlockCase {
+    pub fn roomy(
+        random: &mut Random,
+        size: (usize, usize),
+        kinds: [u32; 2],
+        residuals: Vec<i32>,
+    ) -> BlockCase {
         let more = random.below(9);
         let scratch = filling(random, size.0 * size.1 + more);
         let output = filling(random, size.0 * size.1 + 8 - more);
@@ -42,7 +47,13 @@ impl BlockCase {
             let place = random.below(residuals.len());
             residuals[place] = random.pick(&[4096, -4096, i32::MAX, i32::MIN]);
         }
-        BlockCase { size, kinds, residuals, scratch: filling(random, lengths[1]), output: filling(random, lengths[2]) }
+        BlockCase {
+            size,
+            kinds,
+            residuals,
+            scratch: filling(random, lengths[1]),
+            output: filling(random, lengths[2]),
+        }
     }
 
     /// The count of numbers in the block, or what it is refused for.

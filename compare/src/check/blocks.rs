@@ -2,14 +2,14 @@
 
 use super::Run;
 use super::block_case::{BlockCase, refusals};
-use crate::difference::{Difference, Outcome, same, same_list};
+use crate::difference::{Outcome, same, same_list};
 use crate::lent::Lent;
 use crate::mizdrek;
 use crate::oracle::{self, DCT};
 use crate::rules::transform::RESIDUAL_LIMIT;
 use crate::samples::impulse;
 
-pub fn compare(run: &mut Run) -> Result<(), Difference> {
+pub fn compare(run: &mut Run) -> Outcome {
     for (size, kinds) in oracle::blocks() {
         patterns(run, size, kinds)?;
         impulses(run, size, kinds)?;
@@ -33,7 +33,9 @@ fn patterns(run: &mut Run, size: (usize, usize), kinds: [u32; 2]) -> Outcome {
     let (w, h) = size;
     for number in [RESIDUAL_LIMIT, -RESIDUAL_LIMIT, 1, -1, 0] {
         for pattern in [|_, _| 0, |x, y| x + y, |x, _| x, |_, y| y, |x, y| x / 2 + y / 2] {
-            let at = |i: usize| if pattern(i % w, i / w) % 2 == 0 { number } else { -number };
+            let at = |i: usize| {
+                if pattern(i % w, i / w) % 2 == 0 { number } else { -number }
+            };
             block(run, size, kinds, (0..w * h).map(at).collect())?;
         }
     }
@@ -53,7 +55,9 @@ fn impulses(run: &mut Run, size: (usize, usize), kinds: [u32; 2]) -> Outcome {
 /// The residuals that make each sum of both passes as large, and as small, as it can be.
 fn largest_sums(run: &mut Run, size: (usize, usize), kinds: [u32; 2]) -> Outcome {
     let (w, h) = size;
-    let sign = |kind, side, f, k| if oracle::kernel(kind, side, f, k) < 0 { -1 } else { 1 };
+    let sign = |kind, side, f, k| {
+        if oracle::kernel(kind, side, f, k) < 0 { -1 } else { 1 }
+    };
     for f in 0..h {
         for g in 0..w {
             let at = |i: usize| RESIDUAL_LIMIT * sign(kinds[0], h, f, i / w) * sign(kinds[1], w, g, i % w);

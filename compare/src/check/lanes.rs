@@ -1,7 +1,7 @@
 //! The lane pass: some lines of a pass, with every other number of dst kept.
 
 use super::Run;
-use crate::difference::{Difference, Input, Outcome, same};
+use crate::difference::{Input, Outcome, same};
 use crate::lent::Lent;
 use crate::oracle::{self, KERNELS, SIDES};
 use crate::probe::passes as ours;
@@ -19,7 +19,7 @@ struct Case {
 }
 
 /// Every start of 1, 4 and 8 lines at every size, and as many random cases as are asked for.
-pub fn compare(run: &mut Run) -> Result<(), Difference> {
+pub fn compare(run: &mut Run) -> Outcome {
     let places = places();
     for (kind, side) in KERNELS {
         for &place in &places {
@@ -45,7 +45,11 @@ fn places() -> Vec<(usize, usize, usize)> {
     places
 }
 
-fn random_case(run: &mut Run, (side, kind): (usize, u32), (line, start, lines): (usize, usize, usize)) -> Outcome {
+fn random_case(
+    run: &mut Run,
+    (side, kind): (usize, u32),
+    (line, start, lines): (usize, usize, usize),
+) -> Outcome {
     run.case();
     let random = &mut run.random;
     let shift = random.within(1, 15) as i32;

@@ -3,7 +3,7 @@
 use super::claim::lines;
 use super::tickets::{any_batch, call};
 use super::{Run, block_case::BlockCase};
-use crate::difference::{Difference, Outcome, same};
+use crate::difference::{Outcome, same};
 use crate::lent::Lent;
 use crate::mizdrek::{Refusal, Ticket};
 use crate::oracle::{self, SIDES};
@@ -17,7 +17,7 @@ struct Case {
     buffers: BlockCase,
 }
 
-pub fn compare(run: &mut Run) -> Result<(), Difference> {
+pub fn compare(run: &mut Run) -> Outcome {
     faults(run)?;
     for _ in 0..run.count {
         let case = any(&mut run.random);
@@ -29,19 +29,26 @@ pub fn compare(run: &mut Run) -> Result<(), Difference> {
 /// Every part of a ticket and of a batch good and bad, in all combinations.
 fn faults(run: &mut Run) -> Outcome {
     let ranges = [(0, 4), (0, 1), (1, 4), (4, 8), (usize::MAX, 1), (0, 0), (usize::MAX - 3, 4), (0, 8)];
-    for size in [(4, 4), (8, 4), (32, 32), (16, 16), (0, 4), (4, 64), (usize::MAX, usize::MAX)] {
-        for kinds in [[0, 0], [1, 0], [0, 1], [2, 0], [0, u32::MAX]] {
-            for columns in [u32::MAX, first_lines(size.0.min(32)), 0x7, 0] {
-                for rows in [0, 1, 0x10, u32::MAX] {
-                    for (start, lines) in ranges {
-                        let ticket = made((size, kinds), columns, rows);
-                        both_calls(run, ticket, (start, lines))?;
-                    }
-                }
-            }
+    for ticket in tickets() {
+        for range in ranges {
+            both_calls(run, ticket, range)?;
         }
     }
     Ok(())
+}
+
+/// Tickets with good and bad sides, kinds and marks.
+fn tickets() -> Vec<Ticket> {
+    let sizes = [(4, 4), (8, 4), (32, 32), (16, 16), (0, 4), (4, 64), (usize::MAX, usize::MAX)];
+    let mut tickets = Vec::new();
+    for size in sizes {
+        for kinds in [[0, 0], [1, 0], [0, 1], [2, 0], [0, u32::MAX]] {
+            for columns in [u32::MAX, first_lines(size.0.min(32)), 0x7, 0] {
+                tickets.extend([0, 1, 0x10, u32::MAX].map(|rows| made(size, kinds, columns, rows)));
+            }
+        }
+    }
+    tickets
 }
 
 fn both_calls(run: &mut Run, ticket: Ticket, (start, lines): (usize, usize)) -> Outcome {
@@ -55,7 +62,7 @@ fn both_calls(run: &mut Run, ticket: Ticket, (start, lines): (usize, usize)) -> 
     Ok(())
 }
 
-fn made(((w, h), [column_kind, row_kind]): ((usize, usize), [u32; 2]), columns: u32, rows: u32) -> Ticket {
+fn made((w, h): (usize, usize), [column_kind, row_kind]: [u32; 2], columns: u32, rows: u32) -> Ticket {
     Ticket { w, h, column_kind, row_kind, columns, rows }
 }
 
@@ -91,7 +98,7 @@ fn any(random: &mut Random) -> Case {
         2 => kinds[random.below(2)] = random.below(3) as u32,
         _ => {}
     }
-    let ticket = made((size, kinds), columns, rows);
+    let ticket = made(size, kinds, columns, rows);
     let lengths = [(); 3].map(|_| length(random, count, 20));
     let buffers = buffers(random, &ticket, lengths);
     Case { ticket, batch: any_batch(random), buffers }

@@ -30,13 +30,13 @@ mod tickets;
 #[cfg(feature = "wht")]
 mod wht;
 
-use crate::difference::Difference;
+use crate::difference::Outcome;
 pub use run::Run;
 
 /// A group of calls that are compared together.
 pub struct Group {
     pub name: &'static str,
-    compare: fn(&mut Run) -> Result<(), Difference>,
+    compare: fn(&mut Run) -> Outcome,
 }
 
 /// The groups that are built in.
@@ -55,19 +55,12 @@ pub const GROUPS: &[Group] = &[
     Group { name: "quant", compare: quant::compare },
 ];
 
-/// Compares the named groups, or all. Gives back whether everything was equal.
+/// Compares the named groups, or all, up to the first difference. Gives back whether there was none.
 pub fn compare(names: &[String], seed: u64, count: u64) -> bool {
-    GROUPS.iter().filter(|group| names.is_empty() || names.iter().any(|name| name == group.name)).all(|group| {
+    let chosen = |group: &&Group| names.is_empty() || names.iter().any(|name| name == group.name);
+    GROUPS.iter().filter(chosen).all(|group| {
         let mut run = Run::new(group.name, seed, count);
         let outcome = (group.compare)(&mut run);
-        run.end();
-        match outcome {
-            Ok(()) => println!("{:8} {:>10} cases, no difference", group.name, run.cases()),
-            Err(ref difference) => {
-                println!("{:8} case {} of seed {seed}", group.name, run.cases());
-                println!("{difference}");
-            }
-        }
-        outcome.is_ok()
+        run.end(outcome)
     })
 }

@@ -2,7 +2,7 @@
 
 use super::Run;
 use super::quant_case::{at_threshold, bad_coefficient, good_coefficient, settings};
-use crate::difference::{Difference, Outcome, same};
+use crate::difference::{Outcome, same};
 use crate::lent::{Float, Lent};
 use crate::mizdrek;
 use crate::oracle;
@@ -16,7 +16,7 @@ struct Case {
     coefficient: i32,
 }
 
-pub fn compare(run: &mut Run) -> Result<(), Difference> {
+pub fn compare(run: &mut Run) -> Outcome {
     for _ in 0..run.count.max(1000) {
         let case = any(&mut run.random);
         run.case();
@@ -34,7 +34,11 @@ pub fn compare(run: &mut Run) -> Result<(), Difference> {
 
 fn any(random: &mut Random) -> Case {
     let coarse = random.below(21);
-    let mut case = Case { step: good_step(random), card: good_card(random), coefficient: good_coefficient(random, coarse) };
+    let mut case = Case {
+        step: good_step(random),
+        card: good_card(random),
+        coefficient: good_coefficient(random, coarse),
+    };
     match random.below(9) {
         0 => case.step = bad_step(random),
         1 => case.card = bad_card(random),

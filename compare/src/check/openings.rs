@@ -2,7 +2,7 @@
 
 use super::Run;
 use super::block_case::{BlockCase, refusals};
-use crate::difference::{Difference, Outcome, same};
+use crate::difference::{Outcome, same};
 use crate::lent::Lent;
 use crate::mizdrek::{self, Ticket};
 
@@ -10,7 +10,7 @@ use crate::mizdrek::{self, Ticket};
 const BEFORE: Ticket =
     Ticket { w: 77, h: usize::MAX, column_kind: 9, row_kind: 8, columns: 0x5a5a_5a5a, rows: 0xa5a5_a5a5 };
 
-pub fn compare(run: &mut Run) -> Result<(), Difference> {
+pub fn compare(run: &mut Run) -> Outcome {
     refusals(run, compare_case)?;
     for _ in 0..run.count {
         let case = BlockCase::any(&mut run.random);

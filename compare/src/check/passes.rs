@@ -1,7 +1,7 @@
 //! Single passes: the plain one over all lines, then the lane pass.
 
 use super::{Run, lanes};
-use crate::difference::{Difference, Input, Outcome, same};
+use crate::difference::{Input, Outcome, same};
 use crate::lent::Lent;
 use crate::mizdrek::Refusal;
 use crate::oracle::{self, KERNELS, SIDES};
@@ -31,7 +31,7 @@ struct Case {
     dst: Vec<i32>,
 }
 
-pub fn compare(run: &mut Run) -> Result<(), Difference> {
+pub fn compare(run: &mut Run) -> Outcome {
     for (kind, side) in KERNELS {
         for shift in 1..=15 {
             for lines in SIDES {
@@ -93,7 +93,8 @@ fn refusals(run: &mut Run) -> Outcome {
 fn short_buffers(run: &mut Run, (side, kind, shift, lines): (usize, u32, i32, usize)) -> Outcome {
     let count = side.saturating_mul(lines).min(1024);
     let one_short = count.saturating_sub(1);
-    for (src, dst) in [(count, count), (one_short, count), (count, one_short), (0, 0), (one_short, one_short)] {
+    for (src, dst) in [(count, count), (one_short, count), (count, one_short), (0, 0), (one_short, one_short)]
+    {
         let src = filling(&mut run.random, src);
         let dst = filling(&mut run.random, dst);
         Case { side, kind, shift, lines, src, dst }.compare(run)?;

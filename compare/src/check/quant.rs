@@ -4,12 +4,14 @@ use super::Run;
 use super::quant_case::{QuantCase, bad_coefficient, floats};
 use super::{one_place, scans};
 use crate::av2;
-use crate::difference::{Difference, Outcome, same};
+use crate::difference::{Outcome, same};
 use crate::lent::Lent;
 use crate::mizdrek;
 use crate::oracle::{self, SIDES};
+use crate::random::Random;
+use crate::settings::{bad_card, bad_step};
 
-pub fn compare(run: &mut Run) -> Result<(), Difference> {
+pub fn compare(run: &mut Run) -> Outcome {
     steps(run)?;
     one_place::compare(run)?;
     plain_scans(run)?;
@@ -31,15 +33,16 @@ fn steps(run: &mut Run) -> Outcome {
     Ok(())
 }
 
-/// The places of whole blocks in order, row by row and column by column. Only the first of these has
-/// the width for its second entry: one that begins 0, 1 is read by stride 32.
+/// The places of whole blocks in order. The first has the width for its second entry, and so has the
+/// last at width 32; the others are read by stride 32, also the one that begins 0, 1.
 fn plain_scans(run: &mut Run) -> Outcome {
     for w in SIDES {
         for h in SIDES {
             let by_columns = (0..w * h).map(|i| (i % h * w + i / h) as u16).collect();
             let by_rows = (0..w * h).map(|i| i as u16).collect();
-            let by_stride = (0..w * h).map(|i| (i % w * 32 + i / w) as u16).collect();
-            for scan in [by_columns, by_rows, by_stride] {
+            let down_by_stride = (0..w * h).map(|i| (i / h * 32 + i % h) as u16).collect();
+            let right_by_stride = (0..w * h).map(|i| (i % w * 32 + i / w) as u16).collect();
+            for scan in [by_columns, by_rows, down_by_stride, right_by_stride] {
                 let mut case = good(run, w);
                 case.scan = scan;
                 compare_case(run, &case)?;
@@ -69,43 +72,50 @@ fn good(run: &mut Run, width: usize) -> QuantCase {
 /// Every argument good and bad, in all combinations.
 fn refusals(run: &mut Run) -> Outcome {
     for width in [4, 8, 16, 32, 0, 5, 64, usize::MAX] {
-        for lengths in [[0, 0], [1, 0], [0, 1], [64, 64]] {
-            for setting in 0..4 {
-                for scan in 0..4 {
-                    for coefficient in [false, true] {
-                        let case = spoiled(run, width, lengths, (setting, scan, coefficient));
-                        compare_case(run, &case)?;
-                    }
+        for lack in [[0, 0], [1, 0], [0, 1], [64, 64]] {
+            faults(run, width, lack)?;
+        }
+    }
+    Ok(())
+}
+
+/// Settings, scan and coefficients good and bad, in all combinations.
+fn faults(run: &mut Run, width: usize, lack: [usize; 2]) -> Outcome {
+    for bad_setting in 0..3 {
+        for bad_scan in 0..4 {
+            for coefficients_are_bad in [false, true] {
+                let mut case = good(run, 8);
+                let random = &mut run.random;
+                case.width = width;
+                spoil_setting(random, &mut case, bad_setting);
+                spoil_scan(&mut case, bad_scan);
+                if coefficients_are_bad {
+                    case.coefficients.fill(bad_coefficient(random));
                 }
+                case.levels.truncate(case.scan.len().saturating_sub(lack[0]));
+                case.magnitudes.truncate(case.scan.len().saturating_sub(lack[1]));
+                compare_case(run, &case)?;
             }
         }
     }
     Ok(())
 }
 
-/// A good case with the named faults: what the two lengths lack, and which setting, scan fault and
-/// coefficient are bad.
-fn spoiled(run: &mut Run, width: usize, lack: [usize; 2], faults: (usize, usize, bool)) -> QuantCase {
-    let mut case = good(run, 8);
-    let random = &mut run.random;
-    case.width = width;
-    match faults.0 {
+fn spoil_setting(random: &mut Random, case: &mut QuantCase, which: usize) {
+    match which {
         0 => {}
-        1 => case.step = crate::settings::bad_step(random),
-        _ => case.card = crate::settings::bad_card(random),
+        1 => case.step = bad_step(random),
+        _ => case.card = bad_card(random),
     }
-    match faults.1 {
+}
+
+fn spoil_scan(case: &mut QuantCase, which: usize) {
+    match which {
         0 => {}
         1 => case.scan.resize(1025, 0),
         2 => case.scan[0] = u16::MAX,
         _ => case.coefficients.truncate(8),
     }
-    if faults.2 {
-        case.coefficients.fill(bad_coefficient(random));
-    }
-    case.levels.truncate(case.scan.len().saturating_sub(lack[0]));
-    case.magnitudes.truncate(case.scan.len().saturating_sub(lack[1]));
-    case
 }
 
 fn compare_case(run: &mut Run, case: &QuantCase) -> Outcome {

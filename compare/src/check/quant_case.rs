@@ -42,7 +42,7 @@ impl QuantCase {
         case
     }
 
-    /// Makes an argument bad, one time in six.
+    /// Makes an argument bad, or a coefficient that the scan may not name, one time in five.
     fn spoil(&mut self, random: &mut Random) {
         let places = levels::places(self.width, &self.scan);
         match random.below(30) {
@@ -57,6 +57,10 @@ impl QuantCase {
                 if let Some(named) = self.coefficients.get_mut(random.pick(&places)) {
                     *named = bad_coefficient(random);
                 }
+            }
+            5 if !self.coefficients.is_empty() => {
+                let place = random.below(self.coefficients.len());
+                self.coefficients[place] = bad_coefficient(random);
             }
             _ => {}
         }

@@ -7,9 +7,16 @@ use crate::rules::levels::SCAN_LIMIT;
 pub fn any_scan(random: &mut Random, width: usize, held: usize) -> Vec<u16> {
     let count = scan_length(random);
     let direct = random.once_in(2);
-    let mut scan: Vec<u16> = (0..count)
-        .map(|_| if direct { random.below(held.clamp(1, 65_536)) as u16 } else { by_stride(random, width, held) })
-        .collect();
+    let mut scan: Vec<u16> =
+        (0..count)
+            .map(|_| {
+                if direct {
+                    random.below(held.clamp(1, 65_536)) as u16
+                } else {
+                    by_stride(random, width, held)
+                }
+            })
+            .collect();
     if direct && count > 1 {
         scan[1] = width as u16;
     }

@@ -2,20 +2,18 @@
 
 use super::Run;
 use crate::av2::fdct;
-use crate::difference::{Difference, same};
+use crate::difference::{Outcome, same};
 use crate::mizdrek::Refusal;
-use crate::oracle::{self, SIDES};
+use crate::oracle::{self, KERNELS, SIDES};
 use crate::probe::tables as ours;
 use crate::random::Random;
 
 /// Every side below this is tried beside the four that there are.
 const SIDES_TRIED: usize = 70;
 
-pub fn compare(run: &mut Run) -> Result<(), Difference> {
-    for kind in 0..4 {
-        for side in 0..SIDES_TRIED {
-            kernels(run, kind, side)?;
-        }
+pub fn compare(run: &mut Run) -> Outcome {
+    for (kind, side) in KERNELS {
+        kernel(run, kind, side)?;
     }
     for w in 0..SIDES_TRIED {
         for h in 0..SIDES_TRIED {
@@ -26,32 +24,23 @@ pub fn compare(run: &mut Run) -> Result<(), Difference> {
         let w = any_size(&mut run.random);
         let h = any_size(&mut run.random);
         size(run, w, h)?;
-        let kind = any_size(&mut run.random) as u32;
-        let f = any_size(&mut run.random);
-        let k = any_size(&mut run.random);
-        kernel(run, kind, w, f, k)?;
     }
     Ok(())
 }
 
-/// Every number of one table, and a little past its last row and column.
-fn kernels(run: &mut Run, kind: u32, side: usize) -> Result<(), Difference> {
-    let past = if oracle::has_kernel(kind, side) { side + 2 } else { 2 };
-    for f in 0..past {
-        for k in 0..past {
-            kernel(run, kind, side, f, k)?;
+/// Every number of one table.
+fn kernel(run: &mut Run, kind: u32, side: usize) -> Outcome {
+    for f in 0..side {
+        for k in 0..side {
+            run.case();
+            same("the number", oracle::kernel(kind, side, f, k), ours::kernel(kind, side, f, k))
+                .map_err(|d| d.of("a kernel", &[("kind", &kind), ("side", &side), ("f", &f), ("k", &k)]))?;
         }
     }
     Ok(())
 }
 
-fn kernel(run: &mut Run, kind: u32, side: usize, f: usize, k: usize) -> Result<(), Difference> {
-    run.case();
-    same("the kernel number", oracle::kernel(kind, side, f, k), ours::kernel(kind, side, f, k))
-        .map_err(|d| d.of("probe_kernel", &[("kind", &kind), ("side", &side), ("f", &f), ("k", &k)]))
-}
-
-fn size(run: &mut Run, w: usize, h: usize) -> Result<(), Difference> {
+fn size(run: &mut Run, w: usize, h: usize) -> Outcome {
     let known = SIDES.contains(&w) && SIDES.contains(&h);
     let (shifts, scale) = if known {
         let (first, second) = fdct::fwd_shifts(w, h);

@@ -3,7 +3,7 @@
 use super::block_case::BlockCase;
 use super::claim::Claim;
 use super::{Run, made_up, openings};
-use crate::difference::{Difference, Outcome, same};
+use crate::difference::{Outcome, same};
 use crate::lent::Lent;
 use crate::mizdrek::{self, Refusal, Ticket};
 use crate::oracle;
@@ -12,7 +12,7 @@ use crate::rules::batch::Batch;
 use crate::rules::transform::RESIDUAL_LIMIT;
 use crate::samples::residuals;
 
-pub fn compare(run: &mut Run) -> Result<(), Difference> {
+pub fn compare(run: &mut Run) -> Outcome {
     openings::compare(run)?;
     let end = run.cases() + run.count;
     while run.cases() < end {
@@ -42,7 +42,8 @@ fn play(run: &mut Run, opening: &BlockCase, batches: &[Batch]) -> Outcome {
     let mut scratch = Lent::new(&opening.scratch);
     let mut output = Lent::new(&opening.output);
     let mut ticket = Ticket::default();
-    let answer = mizdrek::open(opening.size, opening.kinds, given.read(), scratch.read(), output.read(), &mut ticket);
+    let answer =
+        mizdrek::open(opening.size, opening.kinds, given.read(), scratch.read(), output.read(), &mut ticket);
     same("the opening's answer", Ok(0), answer)?;
     for (i, batch) in batches.iter().enumerate() {
         run.case();

@@ -1,14 +1,14 @@
 //! The 4x4 Walsh-Hadamard transform.
 
 use super::Run;
-use crate::difference::{Difference, Outcome, same};
+use crate::difference::{Outcome, same};
 use crate::lent::Lent;
 use crate::mizdrek;
 use crate::oracle;
 use crate::rules::transform::{self, RESIDUAL_LIMIT};
 use crate::samples::{filling, impulse, length, residuals};
 
-pub fn compare(run: &mut Run) -> Result<(), Difference> {
+pub fn compare(run: &mut Run) -> Outcome {
     patterns(run)?;
     refusals(run)?;
     for _ in 0..run.count {
@@ -32,7 +32,9 @@ fn patterns(run: &mut Run) -> Outcome {
         }
     }
     for pattern in 0..1 << 16 {
-        let limit = |i| if pattern >> i & 1 == 0 { RESIDUAL_LIMIT } else { -RESIDUAL_LIMIT };
+        let limit = |i| {
+            if pattern >> i & 1 == 0 { RESIDUAL_LIMIT } else { -RESIDUAL_LIMIT }
+        };
         compare_case(run, &(0..16).map(limit).collect::<Vec<_>>(), 19)?;
     }
     Ok(())
@@ -68,6 +70,8 @@ fn compare_call(residuals: &[i32], before: &[i32]) -> Outcome {
     given.holds("residuals", residuals)?;
     match expected {
         Err(_) => output.holds("output", before),
-        Ok(count) => output.holds("output", &[&oracle::fwht4x4(&residuals[..count]), &before[count..]].concat()),
+        Ok(count) => {
+            output.holds("output", &[&oracle::fwht4x4(&residuals[..count]), &before[count..]].concat())
+        }
     }
 }

@@ -86,7 +86,9 @@ pub fn column_batch(
 ) -> Result<usize, Refusal> {
     let (length, into) = (scratch.len(), scratch.as_mut_ptr());
     // Each pointer goes with its own slice's length; the ticket is one struct of C's layout.
-    read(unsafe { mizdrek_column_batch(ticket, residuals.as_ptr(), residuals.len(), into, length, start, lines) })
+    read(unsafe {
+        mizdrek_column_batch(ticket, residuals.as_ptr(), residuals.len(), into, length, start, lines)
+    })
 }
 
 /// Works out `lines` rows from `start` into output and marks them. Answers the number of lines.

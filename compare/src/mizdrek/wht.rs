@@ -3,7 +3,12 @@
 use super::answer::{Refusal, read};
 
 unsafe extern "C" {
-    fn mizdrek_fwht4x4(residuals: *const i32, residuals_len: usize, output: *mut i32, output_len: usize) -> i64;
+    fn mizdrek_fwht4x4(
+        residuals: *const i32,
+        residuals_len: usize,
+        output: *mut i32,
+        output_len: usize,
+    ) -> i64;
 }
 
 /// Transforms the first 16 residuals into the first 16 numbers of output.

@@ -28,9 +28,18 @@ unsafe extern "C" {
 }
 
 /// The public pass over all of `lines` lines.
-pub fn pass(side: usize, kind: u32, shift: i32, lines: usize, src: &[i32], dst: &mut [i32]) -> Result<usize, Refusal> {
+pub fn pass(
+    side: usize,
+    kind: u32,
+    shift: i32,
+    lines: usize,
+    src: &[i32],
+    dst: &mut [i32],
+) -> Result<usize, Refusal> {
     // Each pointer goes with its own slice's length.
-    read(unsafe { probe_pass(side, kind, shift, lines, src.as_ptr(), src.len(), dst.as_mut_ptr(), dst.len()) })
+    read(unsafe {
+        probe_pass(side, kind, shift, lines, src.as_ptr(), src.len(), dst.as_mut_ptr(), dst.len())
+    })
 }
 
 /// The lane pass over `lines` lines from `start`, out of `line` lines.
@@ -42,6 +51,17 @@ pub fn lanes(
 ) -> Result<usize, Refusal> {
     // Each pointer goes with its own slice's length.
     read(unsafe {
-        probe_lanes(side, kind, shift, line, start, lines, src.as_ptr(), src.len(), dst.as_mut_ptr(), dst.len())
+        probe_lanes(
+            side,
+            kind,
+            shift,
+            line,
+            start,
+            lines,
+            src.as_ptr(),
+            src.len(),
+            dst.as_mut_ptr(),
+            dst.len(),
+        )
     })
 }

@@ -6,19 +6,18 @@ use crate::random::Random;
 use crate::rules::transform::RESIDUAL_LIMIT;
 use crate::samples::{impulse, residuals};
 
+/// The smaller a block, the more records of it.
 pub fn records(random: &mut Random) -> Vec<Record> {
     let mut records = Vec::new();
     for (size, kinds) in oracle::blocks() {
         let count = size.0 * size.1;
-        for number in [1, -1, RESIDUAL_LIMIT, -RESIDUAL_LIMIT] {
-            records.push(block(size, kinds, &vec![number; count]));
-        }
-        let place = random.below(count);
-        records.push(block(size, kinds, &impulse(count, place, RESIDUAL_LIMIT)));
-        // The smaller a block, the more of them.
-        for _ in 0..(256 / count).max(1) {
-            let signs = random.once_in(2);
-            let limit = if signs { RESIDUAL_LIMIT } else { 255 };
+        let flat =
+            if count > 128 { vec![-RESIDUAL_LIMIT] } else { vec![1, -1, RESIDUAL_LIMIT, -RESIDUAL_LIMIT] };
+        records.extend(flat.iter().map(|&number| block(size, kinds, &vec![number; count])));
+        for _ in 0..1 + 128 / count {
+            let place = random.below(count);
+            records.push(block(size, kinds, &impulse(count, place, RESIDUAL_LIMIT)));
+            let limit = random.pick(&[RESIDUAL_LIMIT, 255]);
             records.push(block(size, kinds, &residuals(random, count, limit)));
         }
     }

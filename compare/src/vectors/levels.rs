@@ -41,7 +41,13 @@ pub fn records(random: &mut Random) -> Vec<Record> {
     let mut records = Vec::new();
     for (step, card) in SETTINGS {
         records.extend(COEFFICIENTS.map(|coefficient| one(step, card, coefficient)));
-        records.push(scan(4, step, card, &COEFFICIENTS, &[0, 4, 8, 12, 1, 5, 9, 13, 2, 6, 10, 14, 3, 7, 11, 15]));
+        records.push(scan(
+            4,
+            step,
+            card,
+            &COEFFICIENTS,
+            &[0, 4, 8, 12, 1, 5, 9, 13, 2, 6, 10, 14, 3, 7, 11, 15],
+        ));
     }
     for _ in 0..100 {
         let (step, card) = (good_step(random), good_card(random));
@@ -59,15 +65,21 @@ pub fn records(random: &mut Random) -> Vec<Record> {
     records
 }
 
-/// A block's places row by row and column by column in the direct reading, and by stride 32.
-fn block_scans(random: &mut Random, w: usize, h: usize) -> [Record; 2] {
-    let by_columns: Vec<u16> = (0..w * h).map(|i| (i % h * w + i / h) as u16).collect();
-    let by_stride: Vec<u16> = (0..w * h).map(|i| (i % w * 32 + i / w) as u16).collect();
-    [by_columns, by_stride].map(|places| {
+/// A block's places column by column: in the direct reading, by stride 32, or for small ones both.
+fn block_scans(random: &mut Random, w: usize, h: usize) -> Vec<Record> {
+    let direct: Vec<u16> = (0..w * h).map(|i| (i % h * w + i / h) as u16).collect();
+    let by_stride: Vec<u16> = (0..w * h).map(|i| (i / h * 32 + i % h) as u16).collect();
+    let scans = match w * h {
+        ..=128 => vec![direct, by_stride],
+        _ if w < h => vec![direct],
+        _ => vec![by_stride],
+    };
+    let records = scans.iter().map(|places| {
         let coefficients = residuals(random, w * h, 30_000);
         let card = [1.0, random.pick(&[0.5, 0.0, 0.625]), random.pick(&[0.375, 0.5, 0.36])];
-        scan(w, random.pick(&[16, 64, 1248]), card, &coefficients, &places)
-    })
+        scan(w, random.pick(&[16, 64, 1248]), card, &coefficients, places)
+    });
+    records.collect()
 }
 
 fn scan(width: usize, step: u32, card: Card, coefficients: &[i32], scan: &[u16]) -> Record {

@@ -1,24 +1,20 @@
--- The DCT kernels as tables, and the kernel of half a side in that of the side. Assumes nothing.
+-- The DCT kernels as tables, and the kernel of a smaller side in that of a larger. Assumes nothing.
 use mathlib.Core.Path.{_≡_, refl, sym, ap, _∙_}
 use mathlib.Core.Logic.{⊎-elim}
 use mathlib.Core.List.{List, [], _∷_, _++_}
 use Prim.Native.Nat.{ℕ, zero, suc, _+_, _*_, _/_, _<_, _≤_}
-use native.Mathlib.Nat.{eq-or-lt-of-le, le-of-suc-le-suc, suc-mul, div-lt-iff-lt-mul, mul-div-mul-left}
+use native.Mathlib.Nat.{eq-or-lt-of-le, le-of-suc-le-suc, suc-mul, div-lt-iff-lt-mul, mul-div-mul-right, mul-assoc}
 use native.Mathlib.Omega.{arith}
 use lib.Arith.{digits-lt}
-use lib.Dec.{lit<}
 use lib.IntN.{ℤ, pos}
 use lib.ListN.{length, getD, take, drop, length-append, length-drop, List·getD-append}
 use lib.Seq.{length-take-le, getD-take, getD-drop, getD-append-add}
 use Rattle.kernels.specs.Dct.{dct, dct32, dctRows}
 
--- the even frequencies at side 2h are the frequencies at side h
-pub dct-even : (h g k : ℕ) → dct (2 * h) (2 * g) k ≡ dct h g k
+-- every s-th frequency at side m × s is a frequency at side m
+pub dct-scale : (m s g k : ℕ) → 0 < s → dct (m * s) (g * s) k ≡ dct m g k
 unfolding dct
-dct-even h g k = ap (λ (r : ℕ). getD dct32 (r * 32 + k) (pos 0)) (ap (λ (x : ℕ). x / (2 * h)) (twice g) ∙ mul-div-mul-left (32 * g) h (lit< tt))
-  where
-    twice : (g : ℕ) → 32 * (2 * g) ≡ 2 * (32 * g)
-    twice g = omega arith
+dct-scale m s g k some = ap (λ (r : ℕ). getD dct32 (r * 32 + k) (pos 0)) (ap (λ (x : ℕ). x / (m * s)) (sym (mul-assoc 32 g s)) ∙ mul-div-mul-right (32 * g) m some)
 
 module _ (n : ℕ) (some : 0 < n) (small : n ≤ 32) where
   -- a row's n numbers lie within the table

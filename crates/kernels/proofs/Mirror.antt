@@ -24,6 +24,13 @@ turned f x = bySign (eqb (f % 2) 0) x
 unfoldable pub Mirrors : ℕ → Type 0
 Mirrors n = (f k : ℕ) → f < n → k < n → dct n f (n - 1 - k) ≡ turned f (dct n f k)
 
+-- at an even frequency nothing is negated, at an odd one everything is
+pub turned-even : (g : ℕ) (z : ℤ) → turned (2 * g) z ≡ z
+turned-even g z = let e : 2 * g % 2 ≡ 0 = omega arith in ap (λ (m : ℕ). bySign (eqb m 0) z) e
+
+pub turned-odd : (g : ℕ) (z : ℤ) → turned (2 * g + 1) z ≡ negℤ z
+turned-odd g z = let e : (2 * g + 1) % 2 ≡ 1 = omega arith in ap (λ (m : ℕ). bySign (eqb m 0) z) e
+
 abbrev backwards : ℕ → ℕ → List ℤ → ℕ → ℤ
 backwards n f row k = getD row (n - 1 - k) (pos 0)
 

@@ -4,17 +4,13 @@ use mathlib.Core.Logic.{⊎-elim, _⊎_, inl, inr}
 use mathlib.Core.List.{List, [], _∷_, _++_}
 use Prim.Native.Nat.{ℕ, zero, suc, _+_, _*_, _-_, _/_, _%_, _<_, _≤_}
 use native.Mathlib.Nat.{eq-or-lt-of-le, le-of-suc-le-suc, div-add-mod', mod-lt, div-lt-iff-lt-mul, not-suc-le-zero}
-use native.Mathlib.Decide.{decLt}
 use native.Mathlib.Omega.{arith}
 use lib.Arith.{digits-lt}
 use lib.ListN.{length, getD, take, drop, length-append, length-drop, List·getD-append}
 use lib.Seq.{ext-getD, length-take-le, getD-take, getD-drop, getD-append-add, getD-at}
 use Rattle.laws.specs.Store.{grid, tab, laid}
 use Rattle.laws.proofs.Store.{length-grid, grid-in, grid-out}
-use Rattle.laws.proofs.Place.{place-same}
-
-split : (p a : ℕ) → (p < a) ⊎ (a ≤ p)
-split p a = elim (decLt p a) [ yes h ↦ inl h | no h ↦ inr (omega arith) ]
+use Rattle.laws.proofs.Place.{place-same, split}
 
 module _ {A : Type 0} where
   pub length-tab : (n : ℕ) (g : ℕ → A) → length (tab n g) ≡ n

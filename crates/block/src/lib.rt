@@ -1,0 +1,1 @@
+// A block: two passes and scaling.

@@ -1,0 +1,84 @@
+// One line of a pass: the pieces that every side is made of, all of them with sums that wrap.
+ghost use mathlib.Core.Path.{_≡_};
+ghost use Prim.Native.Nat.{ℕ, _+_, _*_, _<_, _≤_};
+ghost use lib.ListN.{length};
+ghost use Rattle.laws.specs.Integer.{wrap32};
+ghost use Rattle.laws.specs.Store.{stores};
+ghost use Rattle.lines.specs.Line.{rowSum, place, rounded, InReach, Butterfly};
+
+// The sum of n products: the numbers of a table from row on, apart places apart, with those of a line that
+// begins at at and has a number every stride places.
+pub fn row_sum(
+    n: usize,
+    t: &[i8],
+    row: usize,
+    apart: usize,
+    x: &[i32],
+    at: usize,
+    stride: usize,
+) -> i32
+    requires { ⌜ ((k : ℕ) → k < n → row + k * apart < length (now t)) ⌝ }
+    requires { ⌜ ((k : ℕ) → k < n → k * stride + at < length (now x)) ⌝ }
+    ensures { λ r. ⌜ r ≡ wrap32 (rowSum n (now (t .entry)) row apart (now (x .entry)) at stride) ⌝ }
+{
+    let mut sum: i32 = 0;
+    let mut k: usize = 0;
+    while k < n {
+        let factor = t[row + k * apart] as i32;
+        let sample = x[k * stride + at];
+        sum = fixed::wrapping_add(sum, fixed::wrapping_mul(factor, sample));
+        k += 1;
+    }
+    sum
+}
+
+// The frequencies first, first + apart, .., count of them, of a line of taps numbers, rounded. Frequency f reads
+// the table from f × fs on, a number every ks places.
+pub fn frequencies(
+    count: usize,
+    first: usize,
+    apart: usize,
+    taps: usize,
+    t: &[i8],
+    fs: usize,
+    ks: usize,
+    x: &[i32],
+    at: usize,
+    stride: usize,
+    o: &mut [i32],
+    shift: u32,
+)
+    requires { ⌜ (1 ≤ shift) × (shift ≤ 15) × InReach count first apart taps fs ks at stride (length (now t)) (length (now x)) (length (now o)) ⌝ }
+    ensures { λ _. ⌜ now (o .exit) ≡ stores (now (o .entry)) count (place first apart) (rounded shift taps (now (t .entry)) first apart fs ks (now (x .entry)) at stride) ⌝ }
+{
+    let mut r: usize = 0;
+    while r < count {
+        let f = first + r * apart;
+        let sum = row_sum(taps, t, f * fs, ks, x, at, stride);
+        o[f] = fixed::round_shift(sum, shift);
+        r += 1;
+    }
+}
+
+// The butterfly: the sums and the differences of 2h numbers of a line, the first with the last, the second with the last but one, ..
+pub fn fold(h: usize, x: &[i32], at: usize, stride: usize, s: &mut [i32], d: &mut [i32])
+    requires { ⌜ (h ≤ 16) × (at < stride) × (2 * h * stride ≤ length (now x)) × (h ≤ length (now s)) × (h ≤ length (now d)) ⌝ }
+    ensures { λ _. ⌜ Butterfly h (now (x .entry)) at stride (now (s .exit)) (now (d .exit)) ⌝ }
+{
+    let mut k: usize = 0;
+    while k < h {
+        let p = x[k * stride + at];
+        let q = x[(2 * h - 1 - k) * stride + at];
+        s[k] = fixed::wrapping_add(p, q);
+        d[k] = fixed::wrapping_sub(p, q);
+        k += 1;
+    }
+}
+
+// The odd frequencies of a stage: of 2h numbers at every step-th frequency of side n = 2h × step, from their differences d.
+pub fn odds(n: usize, h: usize, step: usize, t: &[i8], d: &[i32], o: &mut [i32], shift: u32)
+    requires { ⌜ (step ≤ 16) × (1 ≤ shift) × (shift ≤ 15) × InReach h step (2 * step) h n 1 0 1 (length (now t)) (length (now d)) (length (now o)) ⌝ }
+    ensures { λ _. ⌜ now (o .exit) ≡ stores (now (o .entry)) h (place step (2 * step)) (rounded shift h (now (t .entry)) step (2 * step) n 1 (now (d .entry)) 0 1) ⌝ }
+{
+    frequencies(h, step, 2 * step, h, t, n, 1, d, 0, 1, o, shift);
+}
