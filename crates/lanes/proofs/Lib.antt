@@ -1,0 +1,4 @@
+pub mod Arm
+pub mod Kernel
+pub mod Line
+pub mod Loop
