@@ -12,7 +12,7 @@ use Rattle.sizes.specs.Size.{isSide}
 use Rattle.sizes.proofs.Side.{side-cases}
 use Rattle.kernels.specs.Kernel.{hasKernel}
 use Rattle.lines.specs.Pass.{passLines}
-use Rattle.lanes.specs.Room.{Room}
+use Rattle.lines.specs.Room.{Room}
 
 -- the last arm of a DCT
 pub side-32 : (n : ℕ) → isSide n ≡ true → (n ≡ 4 → ⊥) → (n ≡ 8 → ⊥) → (n ≡ 16 → ⊥) → n ≡ 32

@@ -1,4 +1,2 @@
 pub mod Arm
 pub mod Kernel
-pub mod Line
-pub mod Loop

@@ -1,3 +1,6 @@
+pub mod Line
+pub mod Loop
 pub mod Reach
+pub mod Reading
 pub mod Stage
 pub mod Sum

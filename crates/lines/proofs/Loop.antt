@@ -1,4 +1,4 @@
--- A loop over the lines of a lane pass, at any side and of any kind. Assumes nothing.
+-- A loop over the lines of a pass, at any side and of any kind. Assumes nothing.
 use mathlib.Core.Path.{_≡_, refl, sym, ap, _∙_}
 use mathlib.Core.List.{List}
 use Prim.Native.Nat.{ℕ, _+_, _*_, _≤_, _<_}
@@ -9,8 +9,8 @@ use Rattle.laws.specs.Store.{stores, grid, laid}
 use Rattle.laws.proofs.Store.{Lined, lined-none, lined-turn, lined-all, lined-length}
 use Rattle.laws.proofs.Laid.{grid-laid}
 use lib.ListN.{length}
 use Rattle.lines.specs.Pass.{passAt, passLines}
-use Rattle.lanes.specs.Room.{Room, LineRoom, onLine}
+use Rattle.lines.specs.Room.{Room, LineRoom, onLine}
 
 -- the i-th line from start on: its places and its numbers
 abbrev pub places : ℕ → ℕ → ℕ → ℕ → ℕ
