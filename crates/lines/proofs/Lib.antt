@@ -1,3 +1,4 @@
+pub mod Arm
 pub mod Line
 pub mod Loop
 pub mod Reach

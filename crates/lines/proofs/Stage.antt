@@ -21,7 +21,7 @@ use Rattle.fixed.proofs.Round.{roundShift-cong}
 use Rattle.kernels.specs.Dct.{dct, dct32}
 use Rattle.kernels.proofs.Dct.{dct-scale}
 use Rattle.kernels.proofs.Mirror.{Mirrors, turned, turned-even, turned-odd}
-use Rattle.lines.specs.Line.{lineAt, rowSum, place, rounded, Butterfly, sumOf, diffOf}
+use Rattle.lines.specs.Line.{lineAt, rowSum, place, rounded, Butterfly, Gathered, sumOf, diffOf}
 
 -- frequency f of a line x of n numbers, exactly
 unfoldable pub dctSum : ℕ → ℕ → (ℕ → ℤ) → ℤ
@@ -166,6 +166,20 @@ begin n shift xs at stride o long =
         y = lineAt xs at stride;
         held = λ k l. cong-refl (2 ^ 32) (lineAt xs at stride k);
         rows = λ g l. ap (λ (i : ℕ). dctSum n i (lineAt xs at stride)) (mul-one g);
+      };
+      settled = record { at = λ q r b c d. absurd (omega arith) };
+      long = long;
+    }
+
+-- the same from a line that was gathered
+pub begin-gathered : (n shift : ℕ) {src : List ℤ} {at stride : ℕ} {xs : List ℤ} (o : List ℤ) → Gathered n src at stride xs → n ≤ length o
+    → Partly n 1 n shift (lineAt src at stride) xs 0 1 o
+begin-gathered n shift {src} {at} {stride} {xs} o g long =
+    record {
+      left = record {
+        y = lineAt src at stride;
+        held = λ k l. cong-eq (ap (λ (i : ℕ). getD xs i (pos 0)) (first k) ∙ g .numbers k l);
+        rows = λ g l. ap (λ (i : ℕ). dctSum n i (lineAt src at stride)) (mul-one g);
       };
       settled = record { at = λ q r b c d. absurd (omega arith) };
       long = long;

@@ -58,7 +58,7 @@ same-length : tie.Need-same-length Inv-loop μ-loop
 same-length c = stored-length (c .before .loop .inv .0)
 
 returns : tie.Need-returns Inv-loop μ-loop
-returns c = 
+returns c =
     let p = c .before .before .pre in
     record {
       numbers = λ k b. ap (λ (l : List ℤ). getD l k (pos 0)) (stored-all (c .before .loop .inv .0) (omega arith)) ∙ stores-in _ _ self _ k (pos 0) b (omega arith) (λ i b e. e);
