@@ -1,0 +1,5 @@
+pub mod Mark
+pub mod Held
+pub mod Opened
+pub mod Step
+pub mod Condition3

@@ -1,0 +1,5 @@
+pub mod Mark
+pub mod Batch
+pub mod Open
+pub mod Run
+pub mod Condition3
