@@ -2,4 +2,5 @@ pub mod Mark
 pub mod Held
 pub mod Opened
 pub mod Step
+pub mod Batch
 pub mod Condition3

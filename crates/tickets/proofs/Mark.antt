@@ -43,6 +43,9 @@ every-each (suc n) p e j b =
     let h = both (p n) (every n p) e in
     ⊎-elim (λ a. rw (eqb-true j n a) (h .0)) (λ a. every-each n p (h .1) j (let k : j ≡ n → ⊥ = eqb-false j n a in omega arith)) (decided (eqb j n))
 
+pub every-not : (n : ℕ) (p : ℕ → Bool) (j : ℕ) → j < n → p j ≡ false → every n p ≡ false
+every-not n p j b e = ⊎-elim (λ a. absurd (true≢false (sym (every-each n p a j b) ∙ e))) (λ a. a) (decided (every n p))
+
 pub every-same : (n : ℕ) (p q : ℕ → Bool) → ((j : ℕ) → j < n → p j ≡ q j) → every n p ≡ every n q
 every-same zero p q f = refl
 every-same (suc n) p q f = ap₂ _&&_ (f n (omega arith)) (every-same n p q (λ j b. f j (omega arith)))
@@ -168,22 +171,33 @@ marked-run (suc s) n (suc j) =
     let e : suc s + n ≡ suc (s + n) = omega arith in
     ap (λ (x : ℕ). marked x j) (shifted-half (2 ^ n - 1) s) ∙ marked-run s n j ∙ rw (e, leb·suc-suc s j, leb·suc-suc (suc j) (s + n))
 
+-- the code's shifts lose nothing
+pub one-shl : (n : ℕ) → n ≤ 32 → (1 * 2 ^ n) % 18446744073709551616 ≡ 2 ^ n
+one-shl n h = shl-exact 1 n 64 (omega arith) (omega arith) ∙ one-mul (2 ^ n)
+
 module _ (m s n : ℕ) (room : s + n ≤ 32) (small : m < 2 ^ 32) where
+  run-is : ((1 * 2 ^ n) % 18446744073709551616 - 1) * 2 ^ s % 18446744073709551616 ≡ (2 ^ n - 1) * 2 ^ s
+  run-is = rw (one-shl n (omega arith)) (shl-exact n s 64 (ones-lt n) (omega arith))
+
   run-lt : (2 ^ n - 1) * 2 ^ s < 2 ^ 32
   run-lt = let k : n + s ≤ 32 = omega arith in lt-of-lt-of-le (shl-lt n s (ones-lt n)) (pow-mono k)
 
-  with-lt : bitOr m ((2 ^ n - 1) * 2 ^ s) < 2 ^ 32
-  with-lt = or-lt 32 m ((2 ^ n - 1) * 2 ^ s) small run-lt
+  or-lt-32 : bitOr m ((2 ^ n - 1) * 2 ^ s) < 2 ^ 32
+  or-lt-32 = or-lt 32 m ((2 ^ n - 1) * 2 ^ s) small run-lt
 
-  or-with : bitOr m ((2 ^ n - 1) * 2 ^ s) ≡ withLines m s n
-  unfolding withLines
-  or-with =
-      sym (mask-marked 32 (bitOr m ((2 ^ n - 1) * 2 ^ s)) with-lt)
-      ∙ mask-same 32 _ _ (λ j b. marked-or m ((2 ^ n - 1) * 2 ^ s) j ∙ ap (λ (x : Bool). marked m j || x) (marked-run s n j))
+  pub with-fits : bitOr m (((1 * 2 ^ n) % 18446744073709551616 - 1) * 2 ^ s % 18446744073709551616) < 2 ^ 32
+  with-fits = rw run-is or-lt-32
 
-  pub marked-with : (j : ℕ) → j < 32 → marked (withLines m s n) j ≡ (marked m j || within s n j)
+  pub with-is : bitOr m (((1 * 2 ^ n) % 18446744073709551616 - 1) * 2 ^ s % 18446744073709551616) ≡ withLines m s n
   unfolding withLines
-  marked-with j b = marked-mask 32 (λ j. marked m j || within s n j) j b
+  with-is =
+      rw run-is
+      (sym (mask-marked 32 (bitOr m ((2 ^ n - 1) * 2 ^ s)) or-lt-32)
+      ∙ mask-same 32 _ _ (λ j b. marked-or m ((2 ^ n - 1) * 2 ^ s) j ∙ ap (λ (x : Bool). marked m j || x) (marked-run s n j)))
+
+pub marked-with : (m s n j : ℕ) → j < 32 → marked (withLines m s n) j ≡ (marked m j || within s n j)
+unfolding withLines
+marked-with m s n j b = marked-mask 32 (λ j. marked m j || within s n j) j b
 
 -- ---- what `all_marked` looks at: with the first n lines marked a mask is as it was
 
@@ -216,7 +230,7 @@ module _ (m n : ℕ) (few : n ≤ 32) (small : m < 2 ^ 32) where
       every-all n (marked m)
       (λ j b.
       ap (λ (x : ℕ). marked x j) (sym e)
-      ∙ marked-with m 0 n (omega arith) small j (omega arith)
+      ∙ marked-with m 0 n j (omega arith)
       ∙ ap (λ (x : Bool). marked m j || x) (within-in 0 n j (omega arith) (omega arith))
       ∙ or-true (marked m j))
 

@@ -5,11 +5,12 @@ use Prim.Native.Nat.{ℕ, _+_, _*_, _%_}
 use lib.Dec.{eqb, ltb}
 use lib.IntN.{ℤ}
 use lib.ListN.{length}
-use Rattle.answer.specs.Answer.{Answer, answers, refuses, lowest, after}
+use Rattle.answer.specs.Answer.{Answer, answers, refuses, lowest, after, told}
 use Rattle.sizes.specs.Size.{isSide}
 use Rattle.kernels.specs.Kernel.{hasKernel}
 use Rattle.block.specs.Lines.{columnLines, rowLines}
 use Rattle.tickets.specs.Mark.{anyFrom, allMarked, withLines}
+use Rattle.tickets.specs.declared.Batched.{Batched}
 use Rattle.tickets.specs.declared.Ticket.{Ticket}
 
 -- a column batch or a row batch: its first line, and how many lines
@@ -18,11 +19,8 @@ pub record Batch : Type 0 where
   pub start : ℕ
   pub lines : ℕ
 
-abbrev pub columnBatch : ℕ → ℕ → Batch
-columnBatch start lines = record { row = false; start = start; lines = lines }
-
-abbrev pub rowBatch : ℕ → ℕ → Batch
-rowBatch start lines = record { row = true; start = start; lines = lines }
+abbrev pub batchOf : Bool → ℕ → ℕ → Batch
+batchOf row start lines = record { row = row; start = start; lines = lines }
 
 -- how many lines a block has of the batch's kind: w column lines, h row lines
 abbrev pub lineCount : ℕ → ℕ → Bool → ℕ
@@ -75,10 +73,14 @@ linesOf t b source target =
     (rowLines (t .w) (t .h) (t .«row_kind») source (b .start) (b .lines) target)
     (columnLines (t .w) (t .h) (t .«column_kind») source (b .start) (b .lines) target)
 
+-- an answer, a ticket and the buffer that a call writes
 pub record Given : Type 0 where
   pub answer : Answer
   pub ticket : Ticket
   pub buffer : List ℤ
+
+abbrev pub gives : Batched → List ℤ → Given
+gives r buffer = record { answer = told (r .outcome); ticket = r .ticket; buffer = buffer }
 
 -- what a call with this answer leaves of a ticket: "A refusal .. leaves the ticket as given"
 abbrev pub ticketAfter : Answer → Ticket → Ticket → Ticket

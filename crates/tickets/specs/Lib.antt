@@ -3,3 +3,4 @@ pub mod Batch
 pub mod Open
 pub mod Run
 pub mod Condition3
+pub mod Play

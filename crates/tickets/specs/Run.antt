@@ -1,13 +1,13 @@
 -- A list of batches, run: "the first call gets the opening's ticket and each later one the ticket the last gave back, all are lent
 -- the block's own buffers".
-use mathlib.Core.Bool.{Bool, cond}
+use mathlib.Core.Bool.{Bool, false, cond}
 use mathlib.Core.List.{List}
 use Prim.Native.Nat.{ℕ, zero, suc}
 use lib.IntN.{ℤ}
 use lib.ListN.{length, getD}
 use Rattle.laws.specs.Store.{tab}
 use Rattle.answer.specs.Answer.{Answer}
-use Rattle.tickets.specs.Batch.{Batch, columnBatch, Given, batch}
+use Rattle.tickets.specs.Batch.{Batch, batchOf, Given, batch}
 use Rattle.tickets.specs.declared.Ticket.{Ticket}
 
 -- the ticket and the two work buffers
@@ -16,16 +16,19 @@ pub record State : Type 0 where
   pub scratch : List ℤ
   pub output : List ℤ
 
+abbrev pub stateAt : Ticket → List ℤ → List ℤ → State
+stateAt ticket scratch output = record { ticket = ticket; scratch = scratch; output = output }
+
 pub record Step : Type 0 where
   pub answer : Answer
   pub state : State
 
 -- "A column batch is lent residuals and scratch, a row batch scratch and output"
 abbrev pub columnStep : State → Given → Step
-columnStep s g = record { answer = g .answer; state = record { ticket = g .ticket; scratch = g .buffer; output = s .output } }
+columnStep s g = record { answer = g .answer; state = stateAt (g .ticket) (g .buffer) (s .output) }
 
 abbrev pub rowStep : State → Given → Step
-rowStep s g = record { answer = g .answer; state = record { ticket = g .ticket; scratch = s .scratch; output = g .buffer } }
+rowStep s g = record { answer = g .answer; state = stateAt (g .ticket) (s .scratch) (g .buffer) }
 
 -- one batch of a block
 unfoldable pub step : List ℤ → State → Batch → Step
@@ -34,7 +37,7 @@ step residuals s b =
 
 -- batch i of a list
 abbrev pub nth : List Batch → ℕ → Batch
-nth bs i = getD bs i (columnBatch 0 0)
+nth bs i = getD bs i (batchOf false 0 0)
 
 -- what the first i batches of a list leave
 unfoldable pub stateAfter : List ℤ → State → List Batch → ℕ → State
