@@ -22,7 +22,7 @@ use Rattle.tickets.specs.Play.{stepGiven}
 use Rattle.tickets.specs.Run.{stateAt, columnStep, rowStep, step}
 use Rattle.tickets.specs.declared.Batched.{Batched}
 use Rattle.tickets.specs.declared.Ticket.{Ticket}
-use Rattle.tickets.proofs.Step.{range-end}
+use Rattle.tickets.proofs.Step.{in-range}
 
 pub record Taken (t : Ticket) (b : Batch) (source target : ℕ) : Type 0 where
   pub side-w : isSide (t .w) ≡ true
@@ -47,7 +47,7 @@ taken t b source target n e =
       kinds = not-false _ (s2 .0);
       long-source = ltb-false source (t .w * t .h) (long .0);
       long-target = ltb-false target (t .w * t .h) (long .1);
-      room = range-end (lineCount (t .w) (t .h) (b .row)) (b .start) (b .lines) (s5 .0);
+      room = in-range (lineCount (t .w) (t .h) (b .row)) (b .start) (b .lines) (s5 .0) .end;
     }
 
 -- its lines have a bit in a mask

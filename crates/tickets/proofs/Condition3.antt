@@ -20,7 +20,7 @@ use Rattle.tickets.specs.Condition3.{Condition3, covers, answerTo, accep
 use Rattle.tickets.proofs.Mark.{within-lt, every-all, every-each, none-zero}
 use Rattle.tickets.proofs.Held.{held-none}
 use Rattle.tickets.proofs.Opened.{Opened, opened}
-use Rattle.tickets.proofs.Step.{range-end, Refuses, cases, covers-kind, step-is}
+use Rattle.tickets.proofs.Step.{in-range, Refuses, cases, covers-kind, step-is}
 
 -- ---- what is covered
 
@@ -36,7 +36,7 @@ module _ (w h : ℕ) (bs : List Batch) where
       ⊎-elim
       (λ x.
       let range = rw (kind .0) at (x .1) in
-      (omega (arith, range-end (lineCount w h row) (b .start) (b .lines) range, within-lt (b .start) (b .lines) j (kind .1)), rw (kind .0) at (x .2)))
+      (omega (arith, in-range (lineCount w h row) (b .start) (b .lines) range, within-lt (b .start) (b .lines) j (kind .1)), rw (kind .0) at (x .2)))
       (λ r. absurd (false≢true (sym (ap accepted (r .is)) ∙ two .0)))
       (cases w h done b)
 

@@ -7,13 +7,13 @@ use mathlib.Core.List.{List, [], _∷_}
 use Prim.Native.Nat.{ℕ, _+_, _-_, _*_, _/_, _%_, _<_, _≤_}
 use native.Mathlib.Nat.{mul-comm, mul-le-mul-right, le-trans}
 use native.Mathlib.Omega.{arith}
-use borrow.Author.Tests.{le-ltb, ltb-false, not-false}
+use borrow.Author.Tests.{le-ltb, ltb-false, not-false, eqb-true}
 use lib.Arith.{digits-lt}
 use lib.Dec.{eqb, ltb}
 use lib.IntN.{ℤ, pos}
 use lib.ListN.{length, getD}
 use Rattle.laws.specs.Table.{every}
-use Rattle.laws.proofs.Bool.{both, neither}
+use Rattle.laws.proofs.Bool.{both, either, neither}
 use Rattle.answer.specs.Answer.{Answer, answers, refuses, lowest, after}
 use Rattle.sizes.proofs.Side.{side-bounds}
 use Rattle.block.specs.Block.{columnAt, rowAt}
@@ -30,12 +30,23 @@ use Rattle.tickets.proofs.Opened.{Opened, has-kernels}
 
 -- ---- a batch within its range, and an accepted one
 
-pub range-end : (count start lines : ℕ) → outOfRange count start lines ≡ false → start + lines ≤ count
+pub record InRange (count start lines : ℕ) : Type 0 where
+  pub end : start + lines ≤ count
+  pub few : lines ≤ 8
+
+pub in-range : (count start lines : ℕ) → outOfRange count start lines ≡ false → InRange count start lines
 unfolding outOfRange
-range-end count start lines e =
+in-range count start lines e =
+    let more = eqb lines 4 || eqb lines 8 in
+    let off = more && not (eqb (start % 4) 0) in
     let past = ltb count (start + lines) in
-    let off = (eqb lines 4 || eqb lines 8) && not (eqb (start % 4) 0) in
-    ltb-false count (start + lines) (neither off past (neither (not (eqb lines 1 || (eqb lines 4 || eqb lines 8))) (off || past) e .1) .1)
+    let a = neither (not (eqb lines 1 || more)) (off || past) e in
+    record {
+      end = ltb-false count (start + lines) (neither off past (a .1) .1);
+      few = ⊎-elim (λ u. omega (arith, eqb-true lines 1 u))
+          (λ r. ⊎-elim (λ u. omega (arith, eqb-true lines 4 u)) (λ u. omega (arith, eqb-true lines 8 u)) (either (eqb lines 4) (eqb lines 8) r))
+          (either (eqb lines 1) more (not-false (eqb lines 1 || more) (a .0)));
+    }
 
 pub record Refuses (a : Answer) : Type 0 where
   pub number : ℕ
@@ -208,15 +219,15 @@ module _ (w h ck rk : ℕ) (residuals scratch output : List ℤ) (o : Opened w h
       rw (columns-mask (b .row) (done false) (b .start) (b .lines), rows-mask (b .row) (done true) (b .start) (b .lines))
       (ticket-with (λ row j. done row j || covers b row j) then (λ row j l. adds e row j))
 
-  abbrev inRange : Type 0
-  inRange = outOfRange (lineCount w h (b .row)) (b .start) (b .lines) ≡ false
+  abbrev fitsIn : Type 0
+  fitsIn = outOfRange (lineCount w h (b .row)) (b .start) (b .lines) ≡ false
 
   abbrev inTurn : Type 0
   inTurn = (b .row && not (every w (done false))) ≡ false
 
   -- what the batch gives back, where new is its buffer with the lines done after it
   batch-is : (source target new : List ℤ) → w * h ≤ length source → w * h ≤ length target
-      → (answer ≡ answers (b .lines) → inRange → inTurn → linesOf t b source target ≡ new) → (Refuses answer → target ≡ new)
+      → (answer ≡ answers (b .lines) → fitsIn → inTurn → linesOf t b source target ≡ new) → (Refuses answer → target ≡ new)
       → batch t b source target ≡ record { answer = answer; ticket = ticketOf w h ck rk then; buffer = new }
   unfolding batch
   batch-is source target new ls lt written kept =
@@ -255,20 +266,20 @@ module _ (w h ck rk : ℕ) (residuals scratch output : List ℤ) (o : Opened w h
   long-output : w * h ≤ length (outputOf (done true))
   long-output = omega (arith, o .long-output, held-length w (done true) (rowAt w h ck rk residuals) output)
 
-  column-written : b .row ≡ false → answer ≡ answers (b .lines) → inRange → linesOf t b residuals (scratchOf (done false)) ≡ scratchOf (then false)
+  column-written : b .row ≡ false → answer ≡ answers (b .lines) → fitsIn → linesOf t b residuals (scratchOf (done false)) ≡ scratchOf (then false)
   unfolding ticketOf
   column-written k e r =
-      let room : b .start + b .lines ≤ w = range-end w (b .start) (b .lines) (rw k at r) in
+      let room : b .start + b .lines ≤ w = in-range w (b .start) (b .lines) (rw k at r) .end in
       column-lines t b residuals (scratchOf (done false)) k
       ∙ (column-lines-exact w h ck residuals (o .side-w) (o .side-h) (has-kernels w h ck rk (o .kinds) .0) (o .small) (b .start) (b .lines) (scratchOf (done false)) room
       ∙ held-more h (done false) (columnAt w h ck residuals) scratch (b .start) (b .lines) (omega (arith, side-bounds h (o .side-h)))
       (le-trans (mul-le-mul-right h room) (o .long-scratch))
       ∙ held-same h _ (then false) (columnAt w h ck residuals) scratch (own false k e))
 
-  row-written : b .row ≡ true → answer ≡ answers (b .lines) → inRange → inTurn → linesOf t b (scratchOf (done false)) (outputOf (done true)) ≡ outputOf (then true)
+  row-written : b .row ≡ true → answer ≡ answers (b .lines) → fitsIn → inTurn → linesOf t b (scratchOf (done false)) (outputOf (done true)) ≡ outputOf (then true)
   unfolding ticketOf
   row-written k e r q =
-      let room : b .start + b .lines ≤ h = range-end h (b .start) (b .lines) (rw k at r) in
+      let room : b .start + b .lines ≤ h = in-range h (b .start) (b .lines) (rw k at r) .end in
       let all : every w (done false) ≡ true = not-false (every w (done false)) (rw k at q) in
       row-lines t b (scratchOf (done false)) (outputOf (done true)) k
       ∙ (row-lines-exact w h ck residuals (o .side-w) (o .side-h) (has-kernels w h ck rk (o .kinds) .0) (o .small) rk (has-kernels w h ck rk (o .kinds) .1)
