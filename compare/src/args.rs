@@ -6,7 +6,6 @@ compare bench [GROUP..]                            time both sides, print the ra
 compare vectors [--seed N]                         write the Rust's answers that `vectors` replays
 groups: tables passes blocks tickets wht quant";
 
-#[derive(Clone, Copy, PartialEq, Eq)]
 pub enum Mode {
     Check,
     Bench,

@@ -1,6 +1,7 @@
 //! The Rust's answers in the terms of the comparison.
 
 use crate::av2::{fdct, wht};
+use crate::mizdrek::Settings;
 
 /// The sides that there are.
 pub const SIDES: [usize; 4] = [4, 8, 16, 32];
@@ -18,11 +19,8 @@ pub fn has_kernel(kind: u32, side: usize) -> bool {
     KERNELS.contains(&(kind, side))
 }
 
-/// The kernel number in row `f`, column `k`; 0 where there is none.
+/// The kernel number in row `f`, column `k`.
 pub fn kernel(kind: u32, side: usize, f: usize, k: usize) -> i32 {
-    if !has_kernel(kind, side) || f >= side || k >= side {
-        return 0;
-    }
     fdct::kernel(kind == ADST, side, f, k)
 }
 
@@ -94,7 +92,7 @@ pub fn fwht4x4(residuals: &[i32]) -> Vec<i32> {
 pub fn levels(
     width: usize,
     step: u32,
-    [factor, threshold, dead_zone]: [f32; 3],
+    settings: Settings,
     coefficients: &[i32],
     scan: &[u16],
 ) -> (Vec<f32>, Vec<f32>) {
@@ -103,10 +101,10 @@ pub fn levels(
         coefficients,
         width,
         step as i32,
-        factor,
-        threshold,
+        settings.factor,
+        settings.threshold,
         scan,
-        dead_zone,
+        settings.dead_zone,
         &mut levels,
         &mut magnitudes,
     );

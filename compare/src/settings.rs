@@ -1,7 +1,8 @@
 //! Settings of the quantizer: within their ranges, at their limits, and outside.
 
+use crate::mizdrek::Settings;
 use crate::random::Random;
-use crate::rules::levels::{Card, STEP_LIMIT};
+use crate::rules::levels::STEP_LIMIT;
 
 const LEAST_FACTOR: f32 = 1.0 / 1024.0;
 const MOST_FACTOR: f32 = 1024.0;
@@ -31,7 +32,7 @@ pub fn bad_step(random: &mut Random) -> u32 {
     random.pick(&[0, STEP_LIMIT + 1, 1 << 31, u32::MAX])
 }
 
-pub fn good_card(random: &mut Random) -> Card {
+pub fn good_settings(random: &mut Random) -> Settings {
     let factor = match random.below(3) {
         0 => random.pick(&[LEAST_FACTOR, LEAST_FACTOR.next_up(), MOST_FACTOR, MOST_FACTOR.next_down()]),
         1 => random.pick(&[1.0, 1f32.next_down(), 1f32.next_up(), 0.5, 2.0, 0.75]),
@@ -47,20 +48,27 @@ pub fn good_card(random: &mut Random) -> Card {
         1 => random.pick(&[0.375, 0.36, 0.25, 0.125, 0.45]),
         _ => between(random, LEAST_FLOAT, 0.5),
     };
-    [factor, threshold, dead_zone]
+    Settings { factor, threshold, dead_zone }
 }
 
-/// A card with one number outside its range.
-pub fn bad_card(random: &mut Random) -> Card {
-    let mut card = good_card(random);
-    let which = random.below(3);
-    let outside = [
-        [LEAST_FACTOR.next_down(), MOST_FACTOR.next_up(), 0.0, -0.0],
-        [-LEAST_FLOAT, MOST_THRESHOLD.next_up(), f32::MAX, -1e-9],
-        [-LEAST_FLOAT, 0.5f32.next_up(), 1.0, f32::MAX],
-    ];
-    card[which] = if random.once_in(2) { random.pick(&NOWHERE) } else { random.pick(&outside[which]) };
-    card
+/// Settings with one number outside its range.
+pub fn bad_settings(random: &mut Random) -> Settings {
+    let good = good_settings(random);
+    let number = random.once_in(2).then(|| random.pick(&NOWHERE));
+    match random.below(3) {
+        0 => {
+            let outside = [LEAST_FACTOR.next_down(), MOST_FACTOR.next_up(), 0.0, -0.0];
+            Settings { factor: number.unwrap_or(random.pick(&outside)), ..good }
+        }
+        1 => {
+            let outside = [-LEAST_FLOAT, MOST_THRESHOLD.next_up(), f32::MAX, -1e-9];
+            Settings { threshold: number.unwrap_or(random.pick(&outside)), ..good }
+        }
+        _ => {
+            let outside = [-LEAST_FLOAT, 0.5f32.next_up(), 1.0, f32::MAX];
+            Settings { dead_zone: number.unwrap_or(random.pick(&outside)), ..good }
+        }
+    }
 }
 
 /// A float from `low` to `high`, both above 0, of any magnitude between them.

@@ -27,14 +27,15 @@ fn scan(label: &str, coefficients: &[i32], scan: &[u16]) {
     let (mut their_levels, mut their_magnitudes) = (Vec::new(), Vec::new());
     let (mut levels, mut magnitudes) = (vec![0.0; ENTRIES], vec![0.0; ENTRIES]);
     let rust = || {
+        let (step, settings) = black_box((STEP, SETTINGS));
         fdct::quantize_to_levels(
             black_box(coefficients),
             black_box(WIDTH),
-            black_box(STEP) as i32,
-            SETTINGS.factor,
-            SETTINGS.threshold,
+            step as i32,
+            settings.factor,
+            settings.threshold,
             black_box(scan),
-            SETTINGS.dead_zone,
+            settings.dead_zone,
             black_box(&mut their_levels),
             black_box(&mut their_magnitudes),
         )

@@ -100,13 +100,13 @@ fn bad_buffers(
     let short = count.saturating_sub(1);
     let lengths = [[count; 3], [short, count, count], [count, short, count], [count, count, short], [0; 3]];
     for [in_residuals, in_scratch, in_output] in lengths {
-        // The last place lies just past the block, where any number may stand.
-        for (place, number) in [(0, 1), (0, 4096), (short, -4096), (count / 2, i32::MIN), (count, 4096)] {
+        for (place, number) in [(0, 1), (0, 4096), (short, -4096), (count / 2, i32::MIN)] {
             let mut residuals = residuals(&mut run.random, in_residuals, RESIDUAL_LIMIT);
-            residuals.resize(in_residuals + usize::from(place == in_residuals), 0);
             if let Some(residual) = residuals.get_mut(place) {
                 *residual = number;
             }
+            // Just past the block any number may stand.
+            residuals.extend((in_residuals == count).then_some(4096));
             let scratch = filling(&mut run.random, in_scratch);
             let output = filling(&mut run.random, in_output);
             compare(run, &BlockCase { size, kinds, residuals, scratch, output })?;

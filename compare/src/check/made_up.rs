@@ -3,12 +3,12 @@
 use super::claim::lines;
 use super::tickets::{any_batch, call};
 use super::{Run, block_case::BlockCase};
-use crate::difference::{Outcome, same};
+use crate::difference::{Input, Outcome, same};
 use crate::lent::Lent;
 use crate::mizdrek::{Refusal, Ticket};
 use crate::oracle::{self, SIDES};
 use crate::random::Random;
-use crate::rules::batch::{self, Batch, Marks, first_lines};
+use crate::rules::batch::{self, Batch, first_lines};
 use crate::samples::{filling, length, samples};
 
 struct Case {
@@ -39,7 +39,8 @@ fn faults(run: &mut Run) -> Outcome {
 
 /// Tickets with good and bad sides, kinds and marks.
 fn tickets() -> Vec<Ticket> {
-    let sizes = [(4, 4), (8, 4), (32, 32), (16, 16), (0, 4), (4, 64), (usize::MAX, usize::MAX)];
+    let sizes =
+        [(4, 4), (8, 4), (32, 32), (16, 16), (0, 4), (4, 5), (12, 8), (4, 64), (usize::MAX, usize::MAX)];
     let mut tickets = Vec::new();
     for size in sizes {
         for kinds in [[0, 0], [1, 0], [0, 1], [2, 0], [0, u32::MAX]] {
@@ -53,8 +54,9 @@ fn tickets() -> Vec<Ticket> {
 
 fn both_calls(run: &mut Run, ticket: Ticket, (start, lines): (usize, usize)) -> Outcome {
     let count = ticket.w.saturating_mul(ticket.h).min(1024);
+    let short = count.saturating_sub(1);
     for row in [false, true] {
-        for lengths in [[count; 3], [count.saturating_sub(1); 3], [count, count.saturating_sub(1), count]] {
+        for lengths in [[count; 3], [short, count, count], [count, short, count], [count, count, short]] {
             let buffers = buffers(&mut run.random, &ticket, lengths);
             compare_case(run, &Case { ticket, batch: Batch { row, start, lines }, buffers })?;
         }
@@ -94,8 +96,9 @@ fn any(random: &mut Random) -> Case {
     };
     match random.below(30) {
         0 => size.0 = random.below(70),
-        1 => size.1 = random.pick(&SIDES),
-        2 => kinds[random.below(2)] = random.below(3) as u32,
+        1 => size.1 = random.below(70),
+        2 => size.1 = random.pick(&SIDES),
+        3 => kinds[random.below(2)] = random.below(3) as u32,
         _ => {}
     }
     let ticket = made(size, kinds, columns, rows);
@@ -108,7 +111,7 @@ fn compare_case(run: &mut Run, case: &Case) -> Outcome {
     run.case();
     case.compare().map_err(|d| {
         let name = if case.batch.row { "mizdrek_row_batch" } else { "mizdrek_column_batch" };
-        let mut inputs = vec![("ticket", &case.ticket as &dyn std::fmt::Debug), ("batch", &case.batch)];
+        let mut inputs: Vec<Input> = vec![("ticket", &case.ticket), ("batch", &case.batch)];
         inputs.extend(&case.buffers.inputs()[4..]);
         d.of(name, &inputs)
     })
@@ -133,12 +136,10 @@ impl Case {
     }
 
     fn expected(&self) -> Result<usize, Refusal> {
-        let Ticket { w, h, column_kind, row_kind, columns, rows } = self.ticket;
-        let marks = Marks { w, h, kinds: [column_kind, row_kind], columns, rows };
-        let [residuals, scratch, output] =
-            [&self.buffers.residuals, &self.buffers.scratch, &self.buffers.output].map(Vec::len);
-        let lengths = if self.batch.row { [scratch, output] } else { [residuals, scratch] };
-        batch::batch(&marks, &self.batch, lengths)
+        let BlockCase { residuals, scratch, output, .. } = &self.buffers;
+        let lengths =
+            if self.batch.row { [scratch.len(), output.len()] } else { [residuals.len(), scratch.len()] };
+        batch::batch(&self.ticket, &self.batch, lengths)
     }
 
     fn marked(&self, columns: u32, rows: u32) -> Ticket {

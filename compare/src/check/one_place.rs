@@ -1,32 +1,31 @@
 //! One coefficient at a time, against a scan of one entry.
 
 use super::Run;
-use super::quant_case::{at_threshold, bad_coefficient, good_coefficient, settings};
+use super::quant_case::{at_threshold, bad_coefficient, good_coefficient};
 use crate::difference::{Outcome, same};
-use crate::lent::{Float, Lent};
-use crate::mizdrek;
+use crate::lent::Lent;
+use crate::mizdrek::{self, Settings};
 use crate::oracle;
 use crate::random::Random;
-use crate::rules::levels::{self, Card};
-use crate::settings::{bad_card, bad_step, good_card, good_step};
+use crate::rules::levels;
+use crate::settings::{bad_settings, bad_step, good_settings, good_step};
 
 struct Case {
     step: u32,
-    card: Card,
+    settings: Settings,
     coefficient: i32,
 }
 
 pub fn compare(run: &mut Run) -> Outcome {
     for _ in 0..run.count.max(1000) {
-        let case = any(&mut run.random);
         run.case();
+        let case = any(&mut run.random);
+        let Case { step, settings, coefficient } = &case;
         case.compare().map_err(|d| {
-            let inputs: [(&str, &dyn std::fmt::Debug); 3] = [
-                ("step", &case.step),
-                ("factor, threshold, dead zone", &case.card.map(Float)),
-                ("coefficient", &case.coefficient),
-            ];
-            d.of("mizdrek_quantize_one", &inputs)
+            d.of(
+                "mizdrek_quantize_one",
+                &[("settings", settings), ("step", step), ("coefficient", coefficient)],
+            )
         })?;
     }
     Ok(())
@@ -34,17 +33,14 @@ pub fn compare(run: &mut Run) -> Outcome {
 
 fn any(random: &mut Random) -> Case {
     let coarse = random.below(21);
-    let mut case = Case {
-        step: good_step(random),
-        card: good_card(random),
-        coefficient: good_coefficient(random, coarse),
-    };
+    let coefficient = good_coefficient(random, coarse);
+    let mut case = Case { step: good_step(random), settings: good_settings(random), coefficient };
     match random.below(9) {
         0 => case.step = bad_step(random),
-        1 => case.card = bad_card(random),
+        1 => case.settings = bad_settings(random),
         2 => {}
         3 => halfway(random, &mut case),
-        _ => case.card = at_threshold(random, case.step, case.card, case.coefficient),
+        _ => case.settings = at_threshold(random, case.step, case.settings, coefficient),
     }
     if random.once_in(9) {
         case.coefficient = bad_coefficient(random);
@@ -57,7 +53,8 @@ fn halfway(random: &mut Random, case: &mut Case) {
     case.step = 2 << random.below(12);
     case.coefficient = (2 * random.within(-200, 200) as i32 + 1) * (case.step / 2) as i32;
     let factor = random.pick(&[1.0, 1f32.next_up(), 1f32.next_down()]);
-    case.card = [factor, 0.0, random.pick(&[0.5, 0.5f32.next_down(), 0.0])];
+    let dead_zone = random.pick(&[0.5, 0.5f32.next_down(), 0.0]);
+    case.settings = Settings { factor, threshold: 0.0, dead_zone };
 }
 
 impl Case {
@@ -66,19 +63,19 @@ impl Case {
         let mut level = Lent::new(&before[..1]);
         let mut magnitude = Lent::new(&before[1..]);
         let answer = mizdrek::quantize_one(
-            settings(self.card),
+            self.settings,
             self.step,
             self.coefficient,
             &mut level.write()[0],
             &mut magnitude.write()[0],
         );
-        if let Err(refusal) = levels::one(self.step, self.card, self.coefficient) {
+        if let Err(refusal) = levels::one(self.step, self.settings, self.coefficient) {
             same("the answer", Err(refusal), answer)?;
             level.holds("level", &before[..1])?;
             return magnitude.holds("magnitude", &before[1..]);
         }
-        let written = oracle::levels(4, self.step, self.card, &[self.coefficient], &[0]);
-        let kept = written.1[0] >= self.card[1];
+        let written = oracle::levels(4, self.step, self.settings, &[self.coefficient], &[0]);
+        let kept = written.1[0] >= self.settings.threshold;
         same("the answer", Ok(usize::from(kept)), answer)?;
         level.holds("level", &written.0)?;
         magnitude.holds("magnitude", &written.1)

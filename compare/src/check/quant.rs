@@ -9,7 +9,7 @@ use crate::lent::Lent;
 use crate::mizdrek;
 use crate::oracle::{self, SIDES};
 use crate::random::Random;
-use crate::settings::{bad_card, bad_step};
+use crate::settings::{bad_settings, bad_step};
 
 pub fn compare(run: &mut Run) -> Outcome {
     steps(run)?;
@@ -81,14 +81,14 @@ fn refusals(run: &mut Run) -> Outcome {
 
 /// Settings, scan and coefficients good and bad, in all combinations.
 fn faults(run: &mut Run, width: usize, lack: [usize; 2]) -> Outcome {
-    for bad_setting in 0..3 {
-        for bad_scan in 0..4 {
+    for setting_fault in 0..3 {
+        for scan_fault in 0..4 {
             for coefficients_are_bad in [false, true] {
                 let mut case = good(run, 8);
                 let random = &mut run.random;
                 case.width = width;
-                spoil_setting(random, &mut case, bad_setting);
-                spoil_scan(&mut case, bad_scan);
+                spoil_settings(random, &mut case, setting_fault);
+                spoil_scan(&mut case, scan_fault);
                 if coefficients_are_bad {
                     case.coefficients.fill(bad_coefficient(random));
                 }
@@ -101,11 +101,11 @@ fn faults(run: &mut Run, width: usize, lack: [usize; 2]) -> Outcome {
     Ok(())
 }
 
-fn spoil_setting(random: &mut Random, case: &mut QuantCase, which: usize) {
+fn spoil_settings(random: &mut Random, case: &mut QuantCase, which: usize) {
     match which {
         0 => {}
         1 => case.step = bad_step(random),
-        _ => case.card = bad_card(random),
+        _ => case.settings = bad_settings(random),
     }
 }
 
@@ -130,7 +130,7 @@ fn compare_call(case: &QuantCase) -> Outcome {
     let mut magnitudes = Lent::new(&case.magnitudes);
     let answer = mizdrek::quantize_to_levels(
         case.width,
-        (case.step, case.settings()),
+        (case.step, case.settings),
         coefficients.read(),
         scan.read(),
         levels.write(),
@@ -144,7 +144,7 @@ fn compare_call(case: &QuantCase) -> Outcome {
         levels.holds("levels", &case.levels)?;
         return magnitudes.holds("magnitudes", &case.magnitudes);
     };
-    let written = oracle::levels(case.width, case.step, case.card, &case.coefficients, &case.scan);
+    let written = oracle::levels(case.width, case.step, case.settings, &case.coefficients, &case.scan);
     levels.holds("levels", &[&written.0, &case.levels[count..]].concat())?;
     magnitudes.holds("magnitudes", &[&written.1, &case.magnitudes[count..]].concat())
 }

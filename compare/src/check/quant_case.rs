@@ -5,15 +5,14 @@ use crate::difference::Input;
 use crate::mizdrek::{Refusal, Settings};
 use crate::oracle::SIDES;
 use crate::random::Random;
-use crate::rules::levels::{self, COEFFICIENT_LIMIT, Card};
+use crate::rules::levels::{self, COEFFICIENT_LIMIT};
 use crate::samples::length;
-use crate::settings::{bad_card, bad_step, good_card, good_step};
+use crate::settings::{bad_settings, bad_step, good_settings, good_step};
 
-#[derive(Clone)]
 pub struct QuantCase {
     pub width: usize,
     pub step: u32,
-    pub card: Card,
+    pub settings: Settings,
     pub coefficients: Vec<i32>,
     pub scan: Vec<u16>,
     pub levels: Vec<f32>,
@@ -28,16 +27,16 @@ impl QuantCase {
         let coefficients = coefficients(random, held);
         let scan = any_scan(random, width, held);
         let step = good_step(random);
-        let mut card = good_card(random);
+        let mut settings = good_settings(random);
         if random.once_in(3) && held > 0 {
             let coefficient = random.pick(&coefficients);
-            card = at_threshold(random, step, card, coefficient);
+            settings = at_threshold(random, step, settings, coefficient);
         }
         let [levels, magnitudes] = [(); 2].map(|_| {
             let count = length(random, scan.len(), 30);
             floats(random, count)
         });
-        let mut case = QuantCase { width, step, card, coefficients, scan, levels, magnitudes };
+        let mut case = QuantCase { width, step, settings, coefficients, scan, levels, magnitudes };
         case.spoil(random);
         case
     }
@@ -48,7 +47,7 @@ impl QuantCase {
         match random.below(30) {
             0 => self.width = random.below(70),
             1 => self.step = bad_step(random),
-            2 => self.card = bad_card(random),
+            2 => self.settings = bad_settings(random),
             3 if !self.scan.is_empty() => {
                 let entry = random.below(self.scan.len());
                 self.scan[entry] = random.next() as u16;
@@ -66,31 +65,23 @@ impl QuantCase {
         }
     }
 
-    pub fn settings(&self) -> Settings {
-        settings(self.card)
-    }
-
     /// The scan length, or what the call is refused for.
     pub fn expected(&self) -> Result<usize, Refusal> {
         let lengths = [self.levels.len(), self.magnitudes.len()];
-        levels::scan(self.width, (self.step, self.card), &self.coefficients, &self.scan, lengths)
+        levels::scan(self.width, (self.step, self.settings), &self.coefficients, &self.scan, lengths)
     }
 
     pub fn inputs(&self) -> [Input<'_>; 7] {
         [
             ("width", &self.width),
             ("step", &self.step),
-            ("factor, threshold, dead zone", &self.card),
+            ("settings", &self.settings),
             ("coefficients", &self.coefficients),
             ("scan", &self.scan),
             ("levels before", &self.levels),
             ("magnitudes before", &self.magnitudes),
         ]
     }
-}
-
-pub fn settings([factor, threshold, dead_zone]: Card) -> Settings {
-    Settings { factor, threshold, dead_zone }
 }
 
 /// How many coefficients are lent.
@@ -122,12 +113,12 @@ pub fn bad_coefficient(random: &mut Random) -> i32 {
     random.pick(&[COEFFICIENT_LIMIT + 1, -COEFFICIENT_LIMIT - 1, i32::MIN, i32::MAX])
 }
 
-/// The card with its threshold at the magnitude of a coefficient, or next to it.
-pub fn at_threshold(random: &mut Random, step: u32, card: Card, coefficient: i32) -> Card {
-    let [factor, _, dead_zone] = card;
-    let magnitude = (coefficient as f32 * (factor / step as f32)).abs();
+/// The settings with the threshold at the magnitude of a coefficient, or next to it.
+pub fn at_threshold(random: &mut Random, step: u32, settings: Settings, coefficient: i32) -> Settings {
+    let magnitude = (coefficient as f32 * (settings.factor / step as f32)).abs();
     let threshold = random.pick(&[magnitude, magnitude.next_up(), magnitude.next_down()]);
-    if (0.0..=1_048_576.0).contains(&threshold) { [factor, threshold, dead_zone] } else { card }
+    let near = Settings { threshold, ..settings };
+    if levels::are_settings(step, near) { near } else { settings }
 }
 
 /// Any bit patterns: what levels and magnitudes hold before a call.

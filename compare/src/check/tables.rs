@@ -2,7 +2,7 @@
 
 use super::Run;
 use crate::av2::fdct;
-use crate::difference::{Outcome, same};
+use crate::difference::{Input, Outcome, same};
 use crate::mizdrek::Refusal;
 use crate::oracle::{self, KERNELS, SIDES};
 use crate::probe::tables as ours;
@@ -48,7 +48,7 @@ fn size(run: &mut Run, w: usize, h: usize) -> Outcome {
     } else {
         (0, Err(Refusal::BadSize))
     };
-    let inputs: [(&str, &dyn std::fmt::Debug); 2] = [("w", &w), ("h", &h)];
+    let inputs: [Input; 2] = [("w", &w), ("h", &h)];
     run.case();
     same("the shifts", shifts, ours::shifts(w, h)).map_err(|d| d.of("probe_shifts", &inputs))?;
     run.case();

@@ -1,17 +1,7 @@
 //! Steps and levels.
 
 use super::answer::{Refusal, read};
-
-/// The quantizer's settings beside its step.
-#[derive(Clone, Copy, Debug)]
-pub struct Settings {
-    /// From 1/1024 to 1024.
-    pub factor: f32,
-    /// From 0 to 1,048,576.
-    pub threshold: f32,
-    /// From 0 to 0.5.
-    pub dead_zone: f32,
-}
+use super::settings::Settings;
 
 unsafe extern "C" {
     fn mizdrek_qstep(index: u32) -> u32;

@@ -2,16 +2,7 @@
 
 use super::{are_kinds, is_side};
 use crate::mizdrek::Refusal::{self, BadKind, BadSize, BatchOrder, BatchRange, ShortBuffer};
-
-/// What a ticket says, without the way it lies in memory.
-#[derive(Clone, Copy, Debug)]
-pub struct Marks {
-    pub w: usize,
-    pub h: usize,
-    pub kinds: [u32; 2],
-    pub columns: u32,
-    pub rows: u32,
-}
+use crate::mizdrek::Ticket;
 
 /// As many lines as are named, from the start.
 #[derive(Clone, Copy, Debug)]
@@ -44,12 +35,12 @@ pub fn first_lines(count: usize) -> u32 {
 }
 
 /// A batch lent two buffers of these lengths.
-pub fn batch(marks: &Marks, batch: &Batch, lengths: [usize; 2]) -> Result<usize, Refusal> {
-    let Marks { w, h, kinds, columns, rows } = *marks;
+pub fn batch(ticket: &Ticket, batch: &Batch, lengths: [usize; 2]) -> Result<usize, Refusal> {
+    let Ticket { w, h, column_kind, row_kind, columns, rows } = *ticket;
     if !is_side(w) || !is_side(h) {
         return Err(BadSize);
     }
-    if !are_kinds(w, h, kinds) {
+    if !are_kinds(w, h, [column_kind, row_kind]) {
         return Err(BadKind);
     }
     if lengths.iter().any(|&length| length < w * h) {

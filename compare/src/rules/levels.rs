@@ -2,6 +2,7 @@
 
 use super::is_side;
 use crate::mizdrek::Refusal::{self, BadSetting, BadSize, CoefficientRange, ScanRange, ShortBuffer};
+use crate::mizdrek::Settings;
 
 /// The longest scan.
 pub const SCAN_LIMIT: usize = 1024;
@@ -12,11 +13,9 @@ pub const COEFFICIENT_LIMIT: i32 = 1_048_576;
 /// The largest step.
 pub const STEP_LIMIT: u32 = 1_048_576;
 
-/// Factor, threshold and dead zone.
-pub type Card = [f32; 3];
-
-/// Whether step and card are within their ranges. A NaN is within none; -0.0 counts as 0.
-pub fn are_settings(step: u32, [factor, threshold, dead_zone]: Card) -> bool {
+/// Whether step and settings are within their ranges. A NaN is within none; -0.0 counts as 0.
+pub fn are_settings(step: u32, settings: Settings) -> bool {
+    let Settings { factor, threshold, dead_zone } = settings;
     (1..=STEP_LIMIT).contains(&step)
         && (1.0 / 1024.0..=1024.0).contains(&factor)
         && (0.0..=1_048_576.0).contains(&threshold)
@@ -38,8 +37,8 @@ pub fn places(width: usize, scan: &[u16]) -> Vec<usize> {
 }
 
 /// One place.
-pub fn one(step: u32, card: Card, coefficient: i32) -> Result<(), Refusal> {
-    if !are_settings(step, card) {
+pub fn one(step: u32, settings: Settings, coefficient: i32) -> Result<(), Refusal> {
+    if !are_settings(step, settings) {
         return Err(BadSetting);
     }
     if !is_coefficient(coefficient) {
@@ -51,7 +50,7 @@ pub fn one(step: u32, card: Card, coefficient: i32) -> Result<(), Refusal> {
 /// A scan, with the lengths of levels and magnitudes.
 pub fn scan(
     width: usize,
-    (step, card): (u32, Card),
+    (step, settings): (u32, Settings),
     coefficients: &[i32],
     scan: &[u16],
     lengths: [usize; 2],
@@ -62,7 +61,7 @@ pub fn scan(
     if lengths.iter().any(|&length| length < scan.len()) {
         return Err(ShortBuffer);
     }
-    if !are_settings(step, card) {
+    if !are_settings(step, settings) {
         return Err(BadSetting);
     }
     let places = places(width, scan);

@@ -1,5 +1,6 @@
 //! One record of the list.
 
+use crate::mizdrek::Settings;
 use std::fmt::{self, Display};
 
 pub struct Record {
@@ -33,6 +34,11 @@ impl Record {
     pub fn floats(mut self, numbers: &[f32]) -> Record {
         self.numbers.extend(numbers.iter().map(|number| i64::from(number.to_bits())));
         self
+    }
+
+    /// Adds factor, threshold and dead zone.
+    pub fn settings(self, settings: Settings) -> Record {
+        self.floats(&[settings.factor, settings.threshold, settings.dead_zone])
     }
 }
 

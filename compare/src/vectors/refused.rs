@@ -1,6 +1,7 @@
 //! Calls at which the Rust panics.
 
 use super::Record;
+use super::levels::DOCUMENT_01;
 use crate::av2::fdct;
 use crate::oracle::{self, DCT, KERNELS};
 use crate::random::Random;
@@ -53,10 +54,10 @@ fn pass(side: usize, kind: u32, src: &[i32], dst: usize) -> Record {
 }
 
 fn scan(width: usize, coefficients: &[i32], scan: &[u16]) -> Record {
-    let (step, card) = (16, [1.0, 0.5, 0.375]);
-    panics(|| _ = oracle::levels(width, step, card, coefficients, scan));
+    let (step, settings) = (16, DOCUMENT_01);
+    panics(|| _ = oracle::levels(width, step, settings, coefficients, scan));
     let lent = scan.len();
-    let refusal = levels::scan(width, (step, card), coefficients, scan, [lent; 2]).expect_err("refused");
-    let record = Record::new(8).put([width as i64, step.into()]).floats(&card).list(coefficients).list(scan);
-    record.put([lent as i64, lent as i64, -refusal.number()])
+    let refusal = levels::scan(width, (step, settings), coefficients, scan, [lent; 2]).expect_err("refused");
+    let record = Record::new(8).put([width as i64, step.into()]).settings(settings);
+    record.list(coefficients).list(scan).put([lent as i64, lent as i64, -refusal.number()])
 }

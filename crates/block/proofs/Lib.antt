@@ -1,1 +1,4 @@
+pub mod Accepted
 pub mod Exact
+pub mod LineRoom
+pub mod Scaled

@@ -18,9 +18,13 @@ columnAt w h ck residuals j f = roundExact (firstShift w h) (passSum ck h w resi
 unfoldable pub columns : ℕ → ℕ → ℕ → List ℤ → List ℤ
 columns w h ck residuals = tab (w * h) (λ p. columnAt w h ck residuals (p / h) (p % h))
 
+-- log2 w + log2 h is odd
+unfoldable pub isOdd : ℕ → ℕ → Bool
+isOdd w h = eqb ((logOf w + logOf h) % 2) 1
+
 -- "If log2 w + log2 h is odd, each v becomes floor((5793v + 2048)/4096)"
 unfoldable pub rescaled : ℕ → ℕ → ℤ → ℤ
-rescaled w h v = cond (eqb ((logOf w + logOf h) % 2) 1) (scaled v) v
+rescaled w h v = cond (isOdd w h) (scaled v) v
 
 -- "rows second, side w over h lines": row line j, frequency f, scaled where a block is
 unfoldable pub rowAt : ℕ → ℕ → ℕ → ℕ → List ℤ → ℕ → ℕ → ℤ

@@ -25,7 +25,7 @@ module _ (n : ℕ) (some : 0 < n) (small : n ≤ 32) where
   row-length : (f : ℕ) → f < n → length (take n (drop (32 * f / n * 32) dct32)) ≡ n
   row-length f b = length-take-le n (drop (32 * f / n * 32) dct32) (omega (arith, in-table f b, length-drop (32 * f / n * 32) dct32))
 
-  rows-length : (m : ℕ) → m ≤ n → length (dctRows n m) ≡ m * n
+  pub rows-length : (m : ℕ) → m ≤ n → length (dctRows n m) ≡ m * n
   unfolding dctRows
   rows-length zero b = omega arith
   rows-length (suc m) b =

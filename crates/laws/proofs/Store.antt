@@ -109,3 +109,10 @@ module _ {A : Type 0} where
       stores-out (grid d m n q g) n (q m) (g m) (q j f) z (λ k c u. omega (arith, h m k (omega arith) c u .0))
       ∙ grid-in d m n q g j f z l bf w (λ i k c b u. h i k (omega arith) b u))
       (eq-or-lt-of-le (le-of-suc-le-suc bj))
+
+  -- ---- the same numbers at each place
+
+  pub stores-ext : (d : List A) (n : ℕ) (q : ℕ → ℕ) (g h : ℕ → A) → ((k : ℕ) → k < n → g k ≡ h k) → stores d n q g ≡ stores d n q h
+  unfolding stores
+  stores-ext d zero q g h e = refl
+  stores-ext d (suc n) q g h e = rw (stores-ext d n q g h (λ k b. e k (omega arith)), e n (omega arith))

@@ -49,7 +49,7 @@ first k = omega arith
 twice : (s g : ℕ) → g * (2 * s) ≡ 2 * g * s
 twice s g = sym (mul-assoc g 2 s) ∙ ap (λ (i : ℕ). i * s) (mul-comm g 2)
 
-odd-place : (s q : ℕ) → place s (2 * s) q ≡ (2 * q + 1) * s
+pub odd-place : (s q : ℕ) → place s (2 * s) q ≡ (2 * q + 1) * s
 odd-place s q = omega (arith, twice s q, add-mul (2 * q) 1 s, one-mul s)
 
 module _ (n h s : ℕ) (x : ℕ → ℤ) (mirrors : Mirrors (2 * h)) where
@@ -162,10 +162,10 @@ pub begin : (n shift : ℕ) (xs : List ℤ) (at stride : ℕ) (o : List ℤ) →
 begin n shift xs at stride o long =
     record {
       left = record {
-            y = lineAt xs at stride;
-            held = λ k l. cong-refl (2 ^ 32) (lineAt xs at stride k);
-            rows = λ g l. ap (λ (i : ℕ). dctSum n i (lineAt xs at stride)) (mul-one g);
-          };
+        y = lineAt xs at stride;
+        held = λ k l. cong-refl (2 ^ 32) (lineAt xs at stride k);
+        rows = λ g l. ap (λ (i : ℕ). dctSum n i (lineAt xs at stride)) (mul-one g);
+      };
       settled = record { at = λ q r b c d. absurd (omega arith) };
       long = long;
     }
@@ -199,18 +199,25 @@ zeroth n shift {x} {xs} {at} {stride} {ts} some t f =
     whole : dctSum n (0 * n) x ≡ dctSum 1 0 (f .y) → dctSum n 0 x ≡ sumTo 1 (λ k. dct 1 0 k *ℤ f .y k)
     whole e = ap (λ (i : ℕ). dctSum n i x) (sym (zero-mul n)) ∙ e
 
+-- every frequency stands in o
+pub record Finished (n shift : ℕ) (x : ℕ → ℤ) (o : List ℤ) : Type 0 where
+  pub at : (f : ℕ) → f < n → getD o f (pos 0) ≡ roundShift shift (dctSum n f x)
+
 -- the number that remains is frequency 0's
-pub finish : (n shift : ℕ) {x : ℕ → ℤ} {xs : List ℤ} {at stride : ℕ} {o o' ts : List ℤ} → 0 < n → IsKernel n ts
+pub finish : (n : ℕ) {shift : ℕ} {x : ℕ → ℤ} {xs : List ℤ} {at stride : ℕ} {o o' ts : List ℤ} → 0 < n → IsKernel n ts
     → Partly n n 1 shift x xs at stride o → o' ≡ stores o 1 (place 0 1) (rounded shift 1 ts 0 1 n 1 xs at stride)
-    → (f : ℕ) → f < n → getD o' f (pos 0) ≡ roundShift shift (dctSum n f x)
-finish n shift {x} {xs} {at} {stride} {o} {o'} {ts} some t p u zero l =
-    ap (λ (a : List ℤ). getD a 0 (pos 0)) u
-    ∙ stores-in o 1 (place 0 1) (rounded shift 1 ts 0 1 n 1 xs at stride) 0 (pos 0) (omega arith) (omega (arith, p .long)) (λ i b e. omega arith)
-    ∙ zeroth n shift some t (p .left)
-finish n shift {x} {xs} {at} {stride} {o} {o'} {ts} some t p u (suc f) l =
-    ap (λ (a : List ℤ). getD a (suc f) (pos 0)) u
-    ∙ stores-out o 1 (place 0 1) (rounded shift 1 ts 0 1 n 1 xs at stride) (suc f) (pos 0) (λ k b e. omega arith)
-    ∙ subst (λ (i : ℕ). getD o i (pos 0) ≡ roundShift shift (dctSum n i x)) here (p .settled .at 0 (suc f) (omega arith) l (omega (arith, zero-mul n)))
+    → Finished n shift x o'
+finish n {shift} {x} {xs} {at} {stride} {o} {o'} {ts} some t p u = record { at = settle }
   where
-    here : 0 * n + suc f ≡ suc f
-    here = omega (arith, zero-mul n)
+    here : (f : ℕ) → 0 * n + suc f ≡ suc f
+    here f = omega (arith, zero-mul n)
+
+    settle : (f : ℕ) → f < n → getD o' f (pos 0) ≡ roundShift shift (dctSum n f x)
+    settle zero l =
+        ap (λ (a : List ℤ). getD a 0 (pos 0)) u
+        ∙ stores-in o 1 (place 0 1) (rounded shift 1 ts 0 1 n 1 xs at stride) 0 (pos 0) (omega arith) (omega (arith, p .long)) (λ i b e. omega arith)
+        ∙ zeroth n shift some t (p .left)
+    settle (suc f) l =
+        ap (λ (a : List ℤ). getD a (suc f) (pos 0)) u
+        ∙ stores-out o 1 (place 0 1) (rounded shift 1 ts 0 1 n 1 xs at stride) (suc f) (pos 0) (λ k b e. omega arith)
+        ∙ subst (λ (i : ℕ). getD o i (pos 0) ≡ roundShift shift (dctSum n i x)) (here f) (p .settled .at 0 (suc f) (omega arith) l (omega (arith, zero-mul n)))

@@ -37,6 +37,13 @@ pub record Butterfly (h : ℕ) (xs : List ℤ) (at stride : ℕ) (ss ds : List �
   pub sums : (k : ℕ) → k < h → getD ss k (pos 0) ≡ sumOf xs at stride h k
   pub diffs : (k : ℕ) → k < h → getD ds k (pos 0) ≡ diffOf xs at stride h k
 
+-- the places from at on, and the numbers of a list
+abbrev pub from : ℕ → ℕ → ℕ
+from at f = at + f
+
+abbrev pub number : List ℤ → ℕ → ℤ
+number os f = getD os f (pos 0)
+
 -- what `frequencies` asks: there are taps, and each place lies within its buffer, of the lengths lt, lx and lo
 pub record InReach (count first apart taps fs ks at stride lt lx lo : ℕ) : Type 0 where
   pub some : 0 < taps

@@ -4,7 +4,7 @@ ghost use Prim.Native.Nat.{ℕ, _+_, _*_, _<_, _≤_};
 ghost use lib.ListN.{length};
 ghost use Rattle.laws.specs.Integer.{wrap32};
 ghost use Rattle.laws.specs.Store.{stores};
-ghost use Rattle.lines.specs.Line.{rowSum, place, rounded, InReach, Butterfly};
+ghost use Rattle.lines.specs.Line.{rowSum, place, rounded, InReach, Butterfly, from, number};
 
 // The sum of n products: the numbers of a table from row on, apart places apart, with those of a line that
 // begins at at and has a number every stride places.
@@ -81,4 +81,24 @@ pub fn odds(n: usize, h: usize, step: usize, t: &[i8], d: &[i32], o: &mut [i32],
     ensures { λ _. ⌜ now (o .exit) ≡ stores (now (o .entry)) h (place step (2 * step)) (rounded shift h (now (t .entry)) step (2 * step) n 1 (now (d .entry)) 0 1) ⌝ }
 {
     frequencies(h, step, 2 * step, h, t, n, 1, d, 0, 1, o, shift);
+}
+
+// Frequency 0 of side n, from the sum s of the whole line.
+pub fn zeroth(n: usize, t: &[i8], s: &[i32], o: &mut [i32], shift: u32)
+    requires { ⌜ (1 ≤ shift) × (shift ≤ 15) × (0 < length (now t)) × (0 < length (now s)) × (0 < length (now o)) ⌝ }
+    ensures { λ _. ⌜ now (o .exit) ≡ stores (now (o .entry)) 1 (place 0 1) (rounded shift 1 (now (t .entry)) 0 1 n 1 (now (s .entry)) 0 1) ⌝ }
+{
+    frequencies(1, 0, 1, 1, t, n, 1, s, 0, 1, o, shift);
+}
+
+// The n numbers of a line, into dst from at on.
+pub fn put(n: usize, o: &[i32], dst: &mut [i32], at: usize)
+    requires { ⌜ (n ≤ length (now o)) × (at + n ≤ length (now dst)) ⌝ }
+    ensures { λ _. ⌜ now (dst .exit) ≡ stores (now (dst .entry)) n (from at) (number (now (o .entry))) ⌝ }
+{
+    let mut f: usize = 0;
+    while f < n {
+        dst[at + f] = o[f];
+        f += 1;
+    }
 }

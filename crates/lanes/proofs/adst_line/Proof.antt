@@ -1,0 +1,58 @@
+-- `lanes::adst_line` meets its contract. Assumes nothing.
+use mathlib.Core.Path.{_≡_, sym, _∙_, subst}
+use mathlib.Core.List.{List, [], _∷_}
+use Prim.Native.Nat.{ℕ, _+_, _*_, _≤_}
+use native.Mathlib.Nat.{mul-comm}
+use native.Mathlib.Omega.{arith}
+use borrow.Author.Needs.{needs}
+use lib.Dec.{lit≤}
+use lib.IntN.{ℤ, pos}
+use Rattle.lanes.specs.Room.{LineRoom}
+use Rattle.lanes.proofs.Line.{line-ends, dense-reach, adst-line}
+use Rattle.lanes.proofs.adst_line.Statement.{statement}
+use Rattle.lanes.proofs.adst_line.Tie as tie
+
+abbrev zeros : List ℤ
+zeros = pos 0 ∷ pos 0 ∷ pos 0 ∷ pos 0 ∷ pos 0 ∷ pos 0 ∷ pos 0 ∷ pos 0 ∷ pos 0 ∷ pos 0 ∷ pos 0 ∷ pos 0 ∷ pos 0 ∷ pos 0 ∷ pos 0 ∷ pos 0 ∷ []
+
+slice-aggregate-frequencies : tie.Need-slice-aggregate-frequencies
+slice-aggregate-frequencies c = search needs
+
+frequencies-requires : tie.Need-frequencies-requires
+frequencies-requires c κs =
+    let a = c .before .args in
+    let p = c .before .pre in
+    (p .0 .room .low, p .0 .room .high, dense-reach (a .n) (a .line) (a .j) (a .shift) (a .src .now) (p .1) (p .0))
+
+slice-aggregate-put : tie.Need-slice-aggregate-put
+slice-aggregate-put c = search needs
+
+mul-put : tie.Need-mul-put
+mul-put c = omega (arith, line-ends (c .before .before .before .before .before .pre .0))
+
+put-requires : tie.Need-put-requires
+put-requires c κs =
+    let p = c .before .before .before .before .before .pre in
+    let s = p .1 .small in
+    (subst (λ (k : ℕ). c .before .before .before .before .before .args .n ≤ k) (sym (c .before .before .before .frequencies .kept .1 .1 .1 .1 .1 .1 .1 .1 .1 .1 .0)) s, line-ends (p .0) .1)
+
+same-length : tie.Need-same-length
+same-length c = search needs
+
+returns : tie.Need-returns
+returns c =
+    let a = c .before .before .before .before .before .before .before .args in
+    let p = c .before .before .before .before .before .before .before .pre in
+    adst-line (a .n) (a .line) (a .j) (a .shift) (a .src .now) (p .1) zeros (a .dst .now) (p .1 .small) (c .before .before .before .before .before .frequencies .ensures) (c .before .put .ensures)
+
+pub adst-line-spec : {M : Type 1} → statement M
+adst-line-spec =
+    tie.close
+    (tie.spec
+    slice-aggregate-frequencies
+    frequencies-requires
+    slice-aggregate-put
+    mul-put
+    put-requires
+    same-length
+    returns)

@@ -1,0 +1,64 @@
+-- `lanes::fadst4_1d` meets its contract: after i turns i lines are written. Assumes nothing.
+use Prim.Native.Nat.{_-_, _≤_}
+use native.Mathlib.Omega.{arith}
+use borrow.Author.Needs.{needs}
+use lib.Dec.{lit<, lit≤}
+use Rattle.lanes.proofs.Kernel.{reading4}
+use Rattle.lanes.proofs.Loop.{Written, none-yet, one-more, same-long, next-line, all-lines}
+use Rattle.lanes.proofs.fadst4_1d.Statement.{statement}
+use Rattle.lanes.proofs.fadst4_1d.Tie as tie
+
+abbrev Inv-loop : tie.InvT-loop
+Inv-loop shift line start count src dst₀ t i₀ dst i = Written 1 4 shift line src start i dst dst₀ × (i ≤ count)
+
+abbrev μ-loop : tie.MeasureT-loop
+μ-loop shift line start count src dst₀ t i₀ dst i = count - i
+
+adst4-requires : tie.Need-adst4-requires Inv-loop μ-loop
+adst4-requires c κs = search needs
+
+loop-holds : tie.Need-loop-holds Inv-loop μ-loop
+loop-holds c = (none-yet, omega arith)
+
+slice-aggregate-adst-line : tie.Need-slice-aggregate-adst-line Inv-loop μ-loop
+slice-aggregate-adst-line c = search needs
+
+add-adst-line : tie.Need-add-adst-line Inv-loop μ-loop
+add-adst-line c = let r = c .before .before .before .before .pre in omega arith
+
+adst-line-requires : tie.Need-adst-line-requires Inv-loop μ-loop
+adst-line-requires c κs =
+    let l = c .before .before .before .loop in
+    (next-line (lit< tt) (lit≤ tt) (c .before .before .before .before .before .pre) (c .before .before .loop-test .taken) (l .inv .0), reading4 (c .before .before .before .before .adst4 .ensures))
+
+add-i : tie.Need-add-i Inv-loop μ-loop
+add-i c = omega arith
+
+loop-less : tie.Need-loop-less Inv-loop μ-loop
+loop-less c = omega arith
+
+loop-again : tie.Need-loop-again Inv-loop μ-loop
+loop-again c = (one-more (c .before .before .before .before .before .loop .inv .0) (c .before .adst-line .ensures), omega arith)
+
+same-length : tie.Need-same-length Inv-loop μ-loop
+same-length c = same-long (c .before .loop .inv .0)
+
+returns : tie.Need-returns Inv-loop μ-loop
+returns c = all-lines (lit< tt) (c .before .before .before .pre) (omega arith) (c .before .loop .inv .0)
+
+pub fadst4-1d-spec : {M : Type 1} → statement M
+fadst4-1d-spec =
+    tie.close
+    (tie.spec
+    Inv-loop
+    μ-loop
+    adst4-requires
+    loop-holds
+    slice-aggregate-adst-line
+    add-adst-line
+    adst-line-requires
+    add-i
+    loop-less
+    loop-again
+    same-length
+    returns)

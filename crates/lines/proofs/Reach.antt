@@ -1,0 +1,43 @@
+-- Where the pieces of a line read and store lies within their buffers. Assumes nothing.
+use mathlib.Core.Path.{_≡_, sym, _∙_}
+use Prim.Native.Nat.{ℕ, _+_, _*_, _≤_, _<_}
+use native.Mathlib.Nat.{zero-mul, mul-one, mul-le-mul-left, lt-of-lt-of-le}
+use native.Mathlib.Omega.{arith}
+use lib.Arith.{digits-lt}
+use Rattle.lines.specs.Line.{place, InReach}
+use Rattle.lines.proofs.Stage.{odd-place}
+
+pub zeroth-reach : (n : ℕ) {lt lx lo : ℕ} → 0 < lt → 0 < lx → 0 < lo → InReach 1 0 1 1 n 1 0 1 lt lx lo
+zeroth-reach n a b c =
+    record {
+      some = omega arith;
+      table = λ r k i j. let z : r ≡ 0 = omega arith in let e = row r z in omega arith;
+      line = λ k i. omega arith;
+      stored = λ r i. omega arith;
+    }
+  where
+    row : (r : ℕ) → r ≡ 0 → place 0 1 r * n ≡ 0
+    row r z = rw z (zero-mul n)
+
+-- a stage's odd frequencies, where the table is that of side n
+pub odds-reach : (n h s : ℕ) {lt lx lo : ℕ} → n ≡ 2 * h * s → 0 < h → 0 < s → n * n ≤ lt → h ≤ lx → n ≤ lo
+    → InReach h s (2 * s) h n 1 0 1 lt lx lo
+odds-reach n h s {lt} {lx} {lo} e a b t x o =
+    record {
+      some = a;
+      table = λ r k i j.
+          let p = below r i in
+          let d : place s (2 * s) r * n + k < n * n = digits-lt p (inside k j) in
+          omega (arith, mul-one k);
+      line = λ k i. omega arith;
+      stored = λ r i. let p = below r i in omega arith;
+    }
+  where
+    below : (r : ℕ) → r < h → place s (2 * s) r < n
+    below r i = let d : (2 * r + 1) * s + 0 < 2 * h * s = digits-lt (omega arith) b in omega (arith, odd-place s r)
+
+    inside : (k : ℕ) → k < h → k < n
+    inside k i =
+        let d : k * s + 0 < 2 * h * s = digits-lt (omega arith) b in
+        let m : k * 1 ≤ k * s = mul-le-mul-left k b in
+        omega (arith, mul-one k)
