@@ -1,10 +1,9 @@
 -- What an accepted batch knows of its arguments, and the two ways out of a batch: with its lines written and marked, or with
 -- everything as given. Assumes nothing.
 use mathlib.Core.Path.{_≡_, sym, ap}
-use mathlib.Core.Bool.{Bool, true, false, not, _&&_}
+use mathlib.Core.Bool.{Bool, true, false, cond, not, _&&_, _||_}
 use mathlib.Core.List.{List}
-use Prim.Native.Nat.{ℕ, _+_, _*_, _≤_}
-use native.Mathlib.Omega.{arith}
+use Prim.Native.Nat.{ℕ, _+_, _*_}
 use borrow.Author.Tests.{not-false, ltb-false}
 use lib.Dec.{ltb}
 use lib.IntN.{ℤ}
@@ -16,21 +15,34 @@ use Rattle.answer.specs.declared.Outcome.{Outcome}
 use Rattle.answer.specs.declared.Outcome.the-variants.{Done, Refused}
 use Rattle.answer.proofs.Answer.{passed}
 use Rattle.sizes.specs.Size.{isSide}
-use Rattle.sizes.proofs.Side.{side-bounds}
-use Rattle.tickets.specs.Batch.{Batch, batchOf, lineCount, hasKinds, batchAnswer, withBatch, linesOf, gives, batch}
+use Rattle.kernels.specs.Kernel.{hasKernel}
+use Rattle.block.specs.Answer.{hasKinds}
+use Rattle.block.specs.Lines.{LinesRoom}
+use Rattle.tickets.specs.Batch.{Batch, batchOf, lineCount, batchAnswer, withBatch, linesOf, gives, batch}
 use Rattle.tickets.specs.Play.{stepGiven}
 use Rattle.tickets.specs.Run.{stateAt, columnStep, rowStep, step}
 use Rattle.tickets.specs.declared.Batched.{Batched}
 use Rattle.tickets.specs.declared.Ticket.{Ticket}
 use Rattle.tickets.proofs.Step.{in-range}
 
-pub record Taken (t : Ticket) (b : Batch) (source target : ℕ) : Type 0 where
-  pub side-w : isSide (t .w) ≡ true
-  pub side-h : isSide (t .h) ≡ true
-  pub kinds : hasKinds (t .w) (t .h) (t .«column_kind») (t .«row_kind») ≡ true
-  pub long-source : t .w * t .h ≤ source
-  pub long-target : t .w * t .h ≤ target
-  pub room : b .start + b .lines ≤ lineCount (t .w) (t .h) (b .row)
+-- the kernel of the batch's lines
+abbrev pub kernelOf : Ticket → Bool → Bool
+kernelOf t row = cond row (hasKernel (t .«row_kind») (t .w)) (hasKernel (t .«column_kind») (t .h))
+
+abbrev pub Taken : Ticket → Batch → ℕ → ℕ → Type 0
+Taken t b source target =
+    LinesRoom (t .w) (t .h) (kernelOf t (b .row)) (b .start + b .lines) (lineCount (t .w) (t .h) (b .row)) source target
+
+has-kernel : (t : Ticket) (row : Bool) → hasKinds (t .w) (t .h) (t .«column_kind») (t .«row_kind») ≡ true → kernelOf t row ≡ true
+unfolding hasKinds
+has-kernel t row e =
+    let a = both (hasKernel (t .«column_kind») (t .h)) _ e in
+    let b = both (hasKernel (t .«row_kind») (t .w)) _ (a .1) in
+    pick row (b .0) (a .0)
+  where
+    pick : (row : Bool) {x y : Bool} → x ≡ true → y ≡ true → cond row x y ≡ true
+    pick true p q = p
+    pick false p q = q
 
 pub taken : (t : Ticket) (b : Batch) (source target n : ℕ) → answers n ≡ batchAnswer t b source target → Taken t b source target
 unfolding batchAnswer
@@ -42,21 +54,13 @@ taken t b source target n e =
     let sides = both (isSide (t .w)) (isSide (t .h)) (not-false _ (s1 .0)) in
     let long = neither (ltb source (t .w * t .h)) (ltb target (t .w * t .h)) (s3 .0) in
     record {
-      side-w = sides .0;
-      side-h = sides .1;
-      kinds = not-false _ (s2 .0);
-      long-source = ltb-false source (t .w * t .h) (long .0);
-      long-target = ltb-false target (t .w * t .h) (long .1);
-      room = in-range (lineCount (t .w) (t .h) (b .row)) (b .start) (b .lines) (s5 .0) .end;
+      wide = sides .0;
+      high = sides .1;
+      kernel = has-kernel t (b .row) (not-false _ (s2 .0));
+      ends = in-range (lineCount (t .w) (t .h) (b .row)) (b .start) (b .lines) (s5 .0) .end;
+      source-long = ltb-false source (t .w * t .h) (long .0);
+      target-long = ltb-false target (t .w * t .h) (long .1);
     }
-
--- its lines have a bit in a mask
-pub room-32 : {t : Ticket} {b : Batch} {source target : ℕ} → Taken t b source target → b .start + b .lines ≤ 32
-room-32 {t} {b} k = within (b .row) (k .room)
-  where
-    within : (row : Bool) {n : ℕ} → n ≤ lineCount (t .w) (t .h) row → n ≤ 32
-    within true l = omega (arith, side-bounds (t .h) (k .side-h))
-    within false l = omega (arith, side-bounds (t .w) (k .side-w))
 
 module _ (t : Ticket) (b : Batch) (source target : List ℤ) where
   pub refused-is : {o : Outcome} {r : Refusal} → told o ≡ batchAnswer t b (length source) (length target) → o ≡ Refused r

@@ -15,8 +15,9 @@ use Rattle.laws.proofs.Laid.{tab-ext}
 use Rattle.answer.specs.Answer.{Answer}
 use Rattle.block.specs.Block.{columnAt, rowAt}
 use Rattle.tickets.specs.Batch.{Batch, lineCount}
-use Rattle.tickets.specs.Run.{State, Step, nth, step, stateAfter, run}
-use Rattle.tickets.specs.Condition3.{Condition3, covers, answerTo, accepted, covered, ticketOf, held, stateOf, settled, opening}
+use Rattle.tickets.specs.Open.{newTicket}
+use Rattle.tickets.specs.Run.{State, stateAt, Step, nth, step, stateAfter, run}
+use Rattle.tickets.specs.Condition3.{Condition3, covers, answerTo, accepted, covered, ticketOf, held, stateOf, settled}
 use Rattle.tickets.proofs.Mark.{within-lt, every-all, every-each, none-zero}
 use Rattle.tickets.proofs.Held.{held-none}
 use Rattle.tickets.proofs.Opened.{Opened, opened}
@@ -56,9 +57,9 @@ module _ (w h : ℕ) (bs : List Batch) where
 
 -- ---- the list
 
-module _ (w h ck rk : ℕ) (residuals scratch output : List ℤ) (o : Opened w h ck rk residuals scratch output) (bs : List Batch) where
+module _ (w h ck rk : ℕ) (residuals scratch output : List ℤ) (o : Opened w h ck rk residuals (length scratch) (length output)) (bs : List Batch) where
   abbrev from : State
-  from = opening w h ck rk scratch output
+  from = stateAt (newTicket w h ck rk) scratch output
 
   abbrev at : ℕ → State
   at i = stateOf w h ck rk residuals scratch output (covered w h bs i)
@@ -82,7 +83,7 @@ module _ (w h ck rk : ℕ) (residuals scratch output : List ℤ) (o : Opened w h
 pub condition3 : Condition3
 unfolding run settled stateOf
 condition3 w h ck rk residuals scratch output e bs =
-    let o = opened w h ck rk residuals scratch output e in
+    let o = opened w h ck rk residuals (length scratch) (length output) e in
     rw (
       tab-ext (length bs) _ _ (λ i b. answer-is w h ck rk residuals scratch output o bs i),
       tab-ext (length bs) _ _ (λ i b. ap (λ (s : State). s .ticket) (state-is w h ck rk residuals scratch output o bs (suc i))),

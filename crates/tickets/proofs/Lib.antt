@@ -1,7 +1,7 @@
-pub mod Mark
-pub mod Held
-pub mod Opened
-pub mod Step
 pub mod Batch
-pub mod Played
 pub mod Condition3
+pub mod Held
+pub mod Mark
+pub mod Opened
+pub mod Played
+pub mod Step

@@ -1,56 +1,68 @@
--- What an accepted opening knows of its arguments. Assumes nothing.
-use mathlib.Core.Path.{_≡_, sym}
-use mathlib.Core.Bool.{Bool, true, false, not, _&&_, _||_}
+-- What an accepted opening knows of its arguments, and the two ways out of `open`, whose tests are a block's. Assumes nothing.
+use mathlib.Core.Path.{_≡_, refl, sym, ap, _∙_}
+use mathlib.Core.Bool.{Bool, true, false, cond}
 use mathlib.Core.List.{List, [], _∷_}
 use Prim.Native.Nat.{ℕ, _*_, _<_, _≤_}
-use borrow.Author.Tests.{not-false, ltb-false, leb-true}
-use lib.Dec.{eqb, leb, ltb}
+use native.Mathlib.Omega.{arith}
+use borrow.Author.Tests.{not-false}
 use lib.IntN.{ℤ, pos, natAbs}
-use lib.ListN.{length, getD}
-use Rattle.laws.proofs.Bool.{both, neither}
-use Rattle.answer.specs.Answer.{Answer, answers}
+use lib.ListN.{getD}
+use Rattle.answer.specs.Answer.{answers, refuses, lowest, told, numberOf}
+use Rattle.answer.specs.declared.Outcome.{Outcome}
+use Rattle.answer.specs.declared.Outcome.the-variants.{Done, Refused}
+use Rattle.answer.specs.declared.Refusal.{Refusal}
 use Rattle.answer.proofs.Answer.{passed}
-use Rattle.sizes.specs.Size.{isSide}
-use Rattle.kernels.specs.Kernel.{hasKernel}
-use Rattle.tickets.specs.Batch.{hasKinds}
-use Rattle.tickets.specs.Open.{inLimit, openAnswer}
-use Rattle.tickets.proofs.Mark.{every-each}
+use Rattle.residual.proofs.Residual.{residual-size}
+use Rattle.block.specs.Answer.{hasKinds, refusals, blockAnswer}
+use Rattle.block.proofs.Accepted.{Accepted, accepted}
+use Rattle.tickets.specs.Open.{openAnswer, newTicket, Opening}
+use Rattle.tickets.specs.declared.Ticket.{Ticket}
 
-pub record Opened (w h ck rk : ℕ) (residuals scratch output : List ℤ) : Type 0 where
-  pub side-w : isSide w ≡ true
-  pub side-h : isSide h ≡ true
+pub record Opened (w h ck rk : ℕ) (residuals : List ℤ) (ls lo : ℕ) : Type 0 where
+  pub block : Accepted w h ck rk residuals ls lo
   pub kinds : hasKinds w h ck rk ≡ true
-  pub long-residuals : w * h ≤ length residuals
-  pub long-scratch : w * h ≤ length scratch
-  pub long-output : w * h ≤ length output
   pub small : (p : ℕ) → p < w * h → natAbs (getD residuals p (pos 0)) ≤ 4095
 
-pub opened : (w h ck rk : ℕ) (residuals scratch output : List ℤ) → openAnswer w h ck rk residuals scratch output ≡ answers 0
-    → Opened w h ck rk residuals scratch output
-unfolding openAnswer inLimit
-opened w h ck rk residuals scratch output e =
-    let s1 = passed _ 1 _ 0 0 (sym e) in
-    let s2 = passed _ 2 _ 0 0 (s1 .1) in
-    let s3 = passed _ 3 _ 0 0 (s2 .1) in
-    let s4 = passed _ 4 _ 0 0 (s3 .1) in
-    let sides = both (isSide w) (isSide h) (not-false _ (s1 .0)) in
-    let long = neither (ltb (length residuals) (w * h)) (ltb (length scratch) (w * h) || ltb (length output) (w * h)) (s3 .0) in
-    let work = neither (ltb (length scratch) (w * h)) (ltb (length output) (w * h)) (long .1) in
+pub opened : (w h ck rk : ℕ) (residuals : List ℤ) (ls lo : ℕ) → openAnswer w h ck rk residuals ls lo ≡ answers 0 → Opened w h ck rk residuals ls lo
+unfolding openAnswer refusals
+opened w h ck rk residuals ls lo e =
+    let a = accepted 0 (sym e) in
     record {
-      side-w = sides .0;
-      side-h = sides .1;
-      kinds = not-false _ (s2 .0);
-      long-residuals = ltb-false (length residuals) (w * h) (long .0);
-      long-scratch = ltb-false (length scratch) (w * h) (work .0);
-      long-output = ltb-false (length output) (w * h) (work .1);
-      small = λ p b.
-          leb-true (natAbs (getD residuals p (pos 0))) 4095
-          (every-each (w * h) (λ p. leb (natAbs (getD residuals p (pos 0))) 4095) (not-false _ (s4 .0)) p b);
+      block = a;
+      kinds = not-false _ (passed _ 2 _ 0 0 (passed _ 1 _ 0 0 (sym e) .1) .0);
+      small = residual-size (w * h) residuals (a .small);
     }
 
--- there is a kernel for the columns and one for the rows
-pub has-kernels : (w h ck rk : ℕ) → hasKinds w h ck rk ≡ true → (hasKernel ck h ≡ true) × (hasKernel rk w ≡ true)
-unfolding hasKinds
-has-kernels w h ck rk e =
-    let a = both (hasKernel ck h) (hasKernel rk w && ((eqb ck 0 && eqb rk 0) || eqb w h)) e in
-    (a .0, both (hasKernel rk w) ((eqb ck 0 && eqb rk 0) || eqb w h) (a .1) .0)
+-- ---- a call with other answers, refused alike
+
+alike-refused : (rs : List (Bool × ℕ)) (m n k : ℕ) → refuses k ≡ lowest rs m → refuses k ≡ lowest rs n
+unfolding lowest
+alike-refused [] m n k e = absurd (let z : _≡_ {A = ℕ} 0 1 = cc in omega arith)
+alike-refused (r ∷ rs) m n k e = pick (r .0) (alike-refused rs m n k) e
+  where
+    pick : (b : Bool) → (refuses k ≡ lowest rs m → refuses k ≡ lowest rs n)
+        → refuses k ≡ cond b (refuses (r .1)) (lowest rs m) → refuses k ≡ cond b (refuses (r .1)) (lowest rs n)
+    pick true f e = e
+    pick false f e = f e
+
+alike-answered : (rs : List (Bool × ℕ)) (m n k : ℕ) → answers k ≡ lowest rs m → answers n ≡ lowest rs n
+unfolding lowest
+alike-answered [] m n k e = refl
+alike-answered (r ∷ rs) m n k e = let p = passed (r .0) (r .1) rs m k e in rw (p .0) (alike-answered rs m n k (p .1))
+
+-- ---- the two ways out of an opening
+
+module _ {w h ck rk : ℕ} {residuals : List ℤ} {ls lo : ℕ} {o : Outcome} {t : Ticket} where
+  pub open-refused : {x : Refusal} → told o ≡ blockAnswer w h ck rk residuals ls lo → o ≡ Refused x → t ≡ newTicket 0 0 0 0
+      → Opening w h ck rk residuals ls lo (record { ticket = t; outcome = o })
+  unfolding blockAnswer openAnswer
+  open-refused {x} e r z =
+      let a = alike-refused (refusals w h ck rk residuals ls lo) (w * h) 0 (numberOf x) (sym (ap told r) ∙ e) in
+      record { answer = ap told r ∙ a; ticket = rw (sym a) z }
+
+  pub open-done : {n : ℕ} → told o ≡ blockAnswer w h ck rk residuals ls lo → o ≡ Done n → t ≡ newTicket w h ck rk
+      → Opening w h ck rk residuals ls lo (record { ticket = t; outcome = Done 0 })
+  unfolding blockAnswer openAnswer
+  open-done {n} e d z =
+      let a = alike-answered (refusals w h ck rk residuals ls lo) (w * h) 0 n (sym (ap told d) ∙ e) in
+      record { answer = a; ticket = rw (sym a) z }

@@ -22,10 +22,11 @@ use Rattle.answer.specs.declared.Outcome.the-variants.{Done, Refused}
 use Rattle.answer.specs.declared.Refusal.{Refusal}
 use Rattle.answer.proofs.Answer.{passed, the-answer, lowest-small}
 use Rattle.tickets.specs.Batch.{Batch, batchOf, lineCount, outOfRange, outOfOrder, batchAnswer, batch}
-use Rattle.tickets.specs.Play.{batchesOf, areKinds, playAnswer, Played, stateUnless, playedAs, played, stepGiven, playGiven}
+use Rattle.tickets.specs.Play.{batchesOf, areKinds, playAnswer, Played, stateUnless, playedAs, played, stepGiven, playGiven, AsSettled}
 use Rattle.tickets.specs.Run.{State, stateAt, Step, Run, nth, step, stateAfter, run}
 use Rattle.tickets.specs.declared.Batched.{Batched}
 use Rattle.tickets.specs.declared.Ticket.{Ticket}
+use Rattle.tickets.proofs.Condition3.{condition3}
 use Rattle.tickets.proofs.Mark.{decided}
 use Rattle.tickets.proofs.Step.{in-range, step-column, step-row}
 
@@ -190,3 +191,13 @@ module _ (residuals : List ℤ) (s : State) (kinds starts lines : List ℕ) (roo
       → playGiven (record { ticket = s .ticket; outcome = o }) (s .scratch) (s .output) room ≡ played residuals s kinds starts lines room
   unfolding played playedAs
   not-played a e = rw (sym a, e)
+
+-- condition 3 at the list
+pub as-settled : (t : Ticket) (residuals scratch output : List ℤ) (kinds starts lines : List ℕ) (room : List ℤ) (given : Played)
+    → given ≡ played residuals (stateAt t scratch output) kinds starts lines room → AsSettled t residuals scratch output kinds starts lines room given
+unfolding played
+as-settled t residuals scratch output kinds starts lines room given e accepted new =
+    e
+    ∙ ap (λ (all : Run). playedAs all (playAnswer kinds (length starts) (length lines) (length room)) (stateAt t scratch output) room)
+    (ap (λ (u : Ticket). run residuals (stateAt u scratch output) (batchesOf kinds starts lines)) new
+    ∙ condition3 (t .w) (t .h) (t .«column_kind») (t .«row_kind») residuals scratch output accepted (batchesOf kinds starts lines))

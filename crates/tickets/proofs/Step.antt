@@ -26,7 +26,7 @@ use Rattle.tickets.specs.Condition3.{covers, answerTo, accepted, ticketO
 use Rattle.tickets.specs.declared.Ticket.{Ticket}
 use Rattle.tickets.proofs.Mark.{or-false, every-all, every-each, every-same, marked-mask, mask-same, decided}
 use Rattle.tickets.proofs.Held.{held-length, held-line, held-same, held-more}
-use Rattle.tickets.proofs.Opened.{Opened, has-kernels}
+use Rattle.tickets.proofs.Opened.{Opened}
 
 -- ---- a batch within its range, and an accepted one
 
@@ -154,7 +154,7 @@ given-same p q r = rw (p, q, r)
 
 -- ---- one batch, after batches that have done the lines that done names
 
-module _ (w h ck rk : ℕ) (residuals scratch output : List ℤ) (o : Opened w h ck rk residuals scratch output)
+module _ (w h ck rk : ℕ) (residuals scratch output : List ℤ) (o : Opened w h ck rk residuals (length scratch) (length output))
     (done : Bool → ℕ → Bool) (inside : (row : Bool) (j : ℕ) → done row j ≡ true → j < lineCount w h row)
     (ready : (j : ℕ) → done true j ≡ true → every w (done false) ≡ true) (b : Batch) where
   abbrev t : Ticket
@@ -168,10 +168,10 @@ module _ (w h ck rk : ℕ) (residuals scratch output : List ℤ) (o : Opened w h
   then row j = done row j || (accepted answer && covers b row j)
 
   w-few : w ≤ 32
-  w-few = side-bounds w (o .side-w) .high
+  w-few = side-bounds w (o .block .wide) .high
 
   h-few : h ≤ 32
-  h-few = side-bounds h (o .side-h) .high
+  h-few = side-bounds h (o .block .high) .high
 
   outside : (row : Bool) (j : ℕ) → lineCount w h row ≤ j → done row j ≡ false
   outside row j past = ⊎-elim (λ a. absurd (omega (arith, inside row j a))) (λ a. a) (decided (done row j))
@@ -189,7 +189,7 @@ module _ (w h ck rk : ℕ) (residuals scratch output : List ℤ) (o : Opened w h
   answer-is : (source target : ℕ) → w * h ≤ source → w * h ≤ target → batchAnswer t b source target ≡ answer
   unfolding batchAnswer answerTo lowest ticketOf
   answer-is source target a c =
-      rw (order-is, o .side-w, o .side-h, o .kinds, le-ltb source (w * h) a, le-ltb target (w * h) c)
+      rw (order-is, o .block .wide, o .block .high, o .kinds, le-ltb source (w * h) a, le-ltb target (w * h) c)
 
   -- refused, a batch does no line
   stays : Refuses answer → (row : Bool) (j : ℕ) → done row j ≡ then row j
@@ -261,19 +261,19 @@ module _ (w h ck rk : ℕ) (residuals scratch output : List ℤ) (o : Opened w h
   outputOf p = held w p (rowAt w h ck rk residuals) output
 
   long-scratch : w * h ≤ length (scratchOf (done false))
-  long-scratch = omega (arith, o .long-scratch, held-length h (done false) (columnAt w h ck residuals) scratch)
+  long-scratch = omega (arith, o .block .scratch-long, held-length h (done false) (columnAt w h ck residuals) scratch)
 
   long-output : w * h ≤ length (outputOf (done true))
-  long-output = omega (arith, o .long-output, held-length w (done true) (rowAt w h ck rk residuals) output)
+  long-output = omega (arith, o .block .output-long, held-length w (done true) (rowAt w h ck rk residuals) output)
 
   column-written : b .row ≡ false → answer ≡ answers (b .lines) → fitsIn → linesOf t b residuals (scratchOf (done false)) ≡ scratchOf (then false)
   unfolding ticketOf
   column-written k e r =
       let room : b .start + b .lines ≤ w = in-range w (b .start) (b .lines) (rw k at r) .end in
       column-lines t b residuals (scratchOf (done false)) k
-      ∙ (column-lines-exact w h ck residuals (o .side-w) (o .side-h) (has-kernels w h ck rk (o .kinds) .0) (o .small) (b .start) (b .lines) (scratchOf (done false)) room
-      ∙ held-more h (done false) (columnAt w h ck residuals) scratch (b .start) (b .lines) (omega (arith, side-bounds h (o .side-h)))
-      (le-trans (mul-le-mul-right h room) (o .long-scratch))
+      ∙ (column-lines-exact w h ck residuals (o .block .wide) (o .block .high) (o .block .column-kernel) (o .small) (b .start) (b .lines) (scratchOf (done false)) room
+      ∙ held-more h (done false) (columnAt w h ck residuals) scratch (b .start) (b .lines) (omega (arith, side-bounds h (o .block .high)))
+      (le-trans (mul-le-mul-right h room) (o .block .scratch-long))
       ∙ held-same h _ (then false) (columnAt w h ck residuals) scratch (own false k e))
 
   row-written : b .row ≡ true → answer ≡ answers (b .lines) → fitsIn → inTurn → linesOf t b (scratchOf (done false)) (outputOf (done true)) ≡ outputOf (then true)
@@ -282,13 +282,13 @@ module _ (w h ck rk : ℕ) (residuals scratch output : List ℤ) (o : Opened w h
       let room : b .start + b .lines ≤ h = in-range h (b .start) (b .lines) (rw k at r) .end in
       let all : every w (done false) ≡ true = not-false (every w (done false)) (rw k at q) in
       row-lines t b (scratchOf (done false)) (outputOf (done true)) k
-      ∙ (row-lines-exact w h ck residuals (o .side-w) (o .side-h) (has-kernels w h ck rk (o .kinds) .0) (o .small) rk (has-kernels w h ck rk (o .kinds) .1)
+      ∙ (row-lines-exact w h ck residuals (o .block .wide) (o .block .high) (o .block .column-kernel) (o .small) rk (o .block .row-kernel)
       (scratchOf (done false))
       (λ j f bj bf.
-      held-line h (done false) (columnAt w h ck residuals) scratch j f bf (omega (arith, digits-lt bj bf, o .long-scratch)) (every-each w (done false) all j bj))
+      held-line h (done false) (columnAt w h ck residuals) scratch j f bf (omega (arith, digits-lt bj bf, o .block .scratch-long)) (every-each w (done false) all j bj))
       (b .start) (b .lines) (outputOf (done true)) room
-      ∙ held-more w (done true) (rowAt w h ck rk residuals) output (b .start) (b .lines) (omega (arith, side-bounds w (o .side-w)))
-      (le-trans (mul-le-mul-right w room) (omega (arith, mul-comm h w, o .long-output)))
+      ∙ held-more w (done true) (rowAt w h ck rk residuals) output (b .start) (b .lines) (omega (arith, side-bounds w (o .block .wide)))
+      (le-trans (mul-le-mul-right w room) (omega (arith, mul-comm h w, o .block .output-long)))
       ∙ held-same w _ (then true) (rowAt w h ck rk residuals) output (own true k e))
 
   abbrev before : State
@@ -302,7 +302,7 @@ module _ (w h ck rk : ℕ) (residuals scratch output : List ℤ) (o : Opened w h
   column-step k =
       step-column residuals before b k
       ∙ ap (columnStep before)
-      (batch-is residuals (scratchOf (done false)) (scratchOf (then false)) (o .long-residuals) long-scratch
+      (batch-is residuals (scratchOf (done false)) (scratchOf (then false)) (o .block .residuals-long) long-scratch
       (λ e r q. column-written k e r)
       (λ r. held-same h (done false) (then false) (columnAt w h ck residuals) scratch (stays r false)))
       ∙ ap (λ (d : List ℤ). record { answer = answer; state = record { ticket = ticketOf w h ck rk then; scratch = scratchOf (then false); output = d } })

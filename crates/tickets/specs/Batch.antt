@@ -7,7 +7,7 @@ use lib.IntN.{ℤ}
 use lib.ListN.{length}
 use Rattle.answer.specs.Answer.{Answer, answers, refuses, lowest, after, told}
 use Rattle.sizes.specs.Size.{isSide}
-use Rattle.kernels.specs.Kernel.{hasKernel}
+use Rattle.block.specs.Answer.{hasKinds}
 use Rattle.block.specs.Lines.{columnLines, rowLines}
 use Rattle.tickets.specs.Mark.{anyFrom, allMarked, withLines}
 use Rattle.tickets.specs.declared.Batched.{Batched}
@@ -38,10 +38,6 @@ unfoldable pub outOfOrder : Ticket → Bool → Bool
 outOfOrder t row =
     anyFrom (t .w) (t .columns)
     || (anyFrom (t .h) (t .rows) || (not (allMarked (t .w) (t .columns)) && (anyFrom 0 (t .rows) || row)))
-
--- number 2: "a kind isn't 0 (DCT) or 1 (ADST); or ADST is asked in a block that isn't square, or at side 32"
-unfoldable pub hasKinds : ℕ → ℕ → ℕ → ℕ → Bool
-hasKinds w h ck rk = hasKernel ck h && (hasKernel rk w && ((eqb ck 0 && eqb rk 0) || eqb w h))
 
 -- "batches 1, 2, 3, 5, 6", of a batch that is lent a buffer of length source to read and one of length target to write
 unfoldable pub batchAnswer : Ticket → Batch → ℕ → ℕ → Answer

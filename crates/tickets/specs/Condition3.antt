@@ -13,7 +13,7 @@ use Rattle.block.specs.Block.{columnAt, rowAt}
 use Rattle.tickets.specs.Mark.{maskOf, within}
 use Rattle.tickets.specs.Batch.{Batch, lineCount, outOfRange}
 use Rattle.tickets.specs.Open.{openAnswer, newTicket}
-use Rattle.tickets.specs.Run.{State, Run, nth, run}
+use Rattle.tickets.specs.Run.{State, stateAt, Run, nth, run}
 use Rattle.tickets.specs.declared.Ticket.{Ticket}
 
 -- "A column batch covers column lines, a row batch row lines: as many as it names, from its start."
@@ -77,13 +77,9 @@ settled w h ck rk residuals scratch output bs =
       state = stateOf w h ck rk residuals scratch output (covered w h bs (length bs));
     }
 
--- the state at an opening
-abbrev pub opening : ℕ → ℕ → ℕ → ℕ → List ℤ → List ℤ → State
-opening w h ck rk scratch output = record { ticket = newTicket w h ck rk; scratch = scratch; output = output }
-
 -- "For every list of column and row batches of one block, whatever their starts, line counts, order and repeats, refused ones included,
 -- run from its accepted opening"
 abbrev pub Condition3 : Type 0
 Condition3 =
-    (w h ck rk : ℕ) (residuals scratch output : List ℤ) → openAnswer w h ck rk residuals scratch output ≡ answers 0
-    → (bs : List Batch) → run residuals (opening w h ck rk scratch output) bs ≡ settled w h ck rk residuals scratch output bs
+    (w h ck rk : ℕ) (residuals scratch output : List ℤ) → openAnswer w h ck rk residuals (length scratch) (length output) ≡ answers 0
+    → (bs : List Batch) → run residuals (stateAt (newTicket w h ck rk) scratch output) bs ≡ settled w h ck rk residuals scratch output bs

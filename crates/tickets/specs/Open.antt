@@ -1,31 +1,23 @@
 -- Opening: "Opening looks at the residuals, the scratch and the output, answers a ticket with no marks and writes nothing."
 use mathlib.Core.Path.{_≡_}
-use mathlib.Core.Bool.{Bool, not, _&&_, _||_}
-use mathlib.Core.List.{List, [], _∷_}
-use Prim.Native.Nat.{ℕ, _*_, _<_, _≤_}
-use lib.Dec.{leb, ltb}
-use lib.IntN.{ℤ, pos, natAbs}
-use lib.ListN.{length, getD}
-use Rattle.answer.specs.Answer.{Answer, lowest}
-use Rattle.laws.specs.Table.{every}
-use Rattle.sizes.specs.Size.{isSide}
-use Rattle.tickets.specs.Batch.{hasKinds}
+use mathlib.Core.List.{List}
+use Prim.Native.Nat.{ℕ}
+use lib.IntN.{ℤ}
+use Rattle.answer.specs.Answer.{Answer, lowest, told}
+use Rattle.block.specs.Answer.{refusals}
+use Rattle.tickets.specs.Batch.{ticketAfter}
+use Rattle.tickets.specs.declared.Batched.{Batched}
 use Rattle.tickets.specs.declared.Ticket.{Ticket}
 
--- number 4: "one of a block's first w×h residuals lies outside -4095 to 4095"
-unfoldable pub inLimit : ℕ → List ℤ → Bool
-inLimit n residuals = every n (λ p. leb (natAbs (getD residuals p (pos 0))) 4095)
-
--- "openings 1 to 4"
-unfoldable pub openAnswer : ℕ → ℕ → ℕ → ℕ → List ℤ → List ℤ → List ℤ → Answer
-openAnswer w h ck rk residuals scratch output =
-    lowest
-    ((not (isSide w && isSide h), 1) ∷
-    (not (hasKinds w h ck rk), 2) ∷
-    (ltb (length residuals) (w * h) || (ltb (length scratch) (w * h) || ltb (length output) (w * h)), 3) ∷
-    (not (inLimit (w * h) residuals), 4) ∷ [])
-    0
+-- "blocks and openings 1 to 4": ls and lo are the lengths of scratch and output
+unfoldable pub openAnswer : ℕ → ℕ → ℕ → ℕ → List ℤ → ℕ → ℕ → Answer
+openAnswer w h ck rk residuals ls lo = lowest (refusals w h ck rk residuals ls lo) 0
 
 -- "a ticket with no marks"
 abbrev pub newTicket : ℕ → ℕ → ℕ → ℕ → Ticket
 newTicket w h ck rk = record { w = w; h = h; «column_kind» = ck; «row_kind» = rk; columns = 0; rows = 0 }
+
+-- what an opening gives back; refused, it is a ticket of zeros, which every batch refuses
+pub record Opening (w h ck rk : ℕ) (residuals : List ℤ) (ls lo : ℕ) (r : Batched) : Type 0 where
+  pub answer : told (r .outcome) ≡ openAnswer w h ck rk residuals ls lo
+  pub ticket : r .ticket ≡ ticketAfter (openAnswer w h ck rk residuals ls lo) (newTicket w h ck rk) (newTicket 0 0 0 0)

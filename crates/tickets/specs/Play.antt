@@ -1,4 +1,5 @@
 -- A list of batches lent as numbers, and played.
+use mathlib.Core.Path.{_≡_}
 use mathlib.Core.Bool.{Bool, not, _||_}
 use mathlib.Core.List.{List, [], _∷_, _++_, map}
 use Prim.Native.Nat.{ℕ}
@@ -10,7 +11,10 @@ use Rattle.laws.specs.Table.{every}
 use Rattle.answer.specs.Answer.{Answer, answers, refuses, lowest, after, signedOf, told}
 use Rattle.tickets.specs.Batch.{Batch, batchOf}
 use Rattle.tickets.specs.Run.{State, stateAt, Step, Run, run}
+use Rattle.tickets.specs.Open.{openAnswer, newTicket}
+use Rattle.tickets.specs.Condition3.{settled}
 use Rattle.tickets.specs.declared.Batched.{Batched}
+use Rattle.tickets.specs.declared.Ticket.{Ticket}
 
 -- batch i of a lent list: a column batch where kinds has 0, a row batch where it has 1
 unfoldable pub batchesOf : List ℕ → List ℕ → List ℕ → List Batch
@@ -58,3 +62,12 @@ stepGiven r scratch output = record { answer = told (r .outcome); state = stateA
 
 abbrev pub playGiven : Batched → List ℤ → List ℤ → List ℤ → Played
 playGiven r scratch output answered = record { answer = told (r .outcome); state = stateAt (r .ticket) scratch output; answered = answered }
+
+-- condition 3 at a played list: from an accepted opening, what the list gives back and leaves is what it settles
+abbrev pub AsSettled : Ticket → List ℤ → List ℤ → List ℤ → List ℕ → List ℕ → List ℕ → List ℤ → Played → Type 0
+AsSettled t residuals scratch output kinds starts lines room given =
+    openAnswer (t .w) (t .h) (t .«column_kind») (t .«row_kind») residuals (length scratch) (length output) ≡ answers 0
+    → t ≡ newTicket (t .w) (t .h) (t .«column_kind») (t .«row_kind»)
+    → given
+    ≡ playedAs (settled (t .w) (t .h) (t .«column_kind») (t .«row_kind») residuals scratch output (batchesOf kinds starts lines))
+    (playAnswer kinds (length starts) (length lines) (length room)) (stateAt t scratch output) room

@@ -5,12 +5,13 @@ ghost use mathlib.Core.Path.{_≡_};
 ghost use mathlib.Core.Bool.{true, false};
 ghost use Prim.Native.Nat.{_+_, _≤_};
 ghost use lib.Dec.{ltb};
+ghost use lib.ListN.{length};
 ghost use Rattle.answer.specs.Answer.{told};
 ghost use Rattle.tickets.specs.Run.{stateAt, step};
-ghost use Rattle.tickets.specs.Play.{areKinds, playAnswer, stepGiven, playGiven, played};
+ghost use Rattle.tickets.specs.Play.{areKinds, playAnswer, stepGiven, playGiven, played, AsSettled};
+ghost use Rattle.tickets.specs.Open.{newTicket, Opening};
 ghost use Rattle.tickets.specs.Mark.{anyFrom, allMarked, withLines};
-ghost use Rattle.kernels.specs.Kernel.{hasKernel};
-ghost use Rattle.tickets.specs.Batch.{batchOf, lineCount, outOfRange, outOfOrder, hasKinds, batchAnswer, withBatch, batch, gives};
+ghost use Rattle.tickets.specs.Batch.{batchOf, lineCount, outOfRange, outOfOrder, batchAnswer, withBatch, batch, gives};
 
 // Document 01: "A ticket holds sides, kinds and one mark per column line and row line." Bit j of a mask is the mark of line j;
 // a mask has room for a mark past the line count, which every batch refuses.
@@ -27,6 +28,53 @@ pub struct Ticket {
 pub struct Batched {
     pub ticket: Ticket,
     pub outcome: Outcome,
+}
+
+// A ticket with no marks for a block of these residuals, with these work buffers; a ticket of zeros where that is refused.
+pub fn open(
+    w: usize,
+    h: usize,
+    column_kind: u32,
+    row_kind: u32,
+    residuals: &[i32],
+    scratch: &[i32],
+    output: &[i32],
+) -> Batched
+    ensures { λ r. ⌜ Opening w h «column_kind» «row_kind» (now (residuals .entry)) (length (now (scratch .entry))) (length (now (output .entry))) r ⌝ }
+{
+    let outcome = block::admit(
+        w,
+        h,
+        column_kind,
+        row_kind,
+        residuals,
+        scratch.len(),
+        output.len(),
+    );
+    let Outcome::Done(_) = outcome else {
+        return Batched {
+            ticket: new_ticket(0, 0, 0, 0),
+            outcome,
+        };
+    };
+    Batched {
+        ticket: new_ticket(w, h, column_kind, row_kind),
+        outcome: Outcome::Done(0),
+    }
+}
+
+// A ticket with no marks.
+fn new_ticket(w: usize, h: usize, column_kind: u32, row_kind: u32) -> Ticket
+    ensures { λ r. ⌜ r ≡ newTicket w h «column_kind» «row_kind» ⌝ }
+{
+    Ticket {
+        w,
+        h,
+        column_kind,
+        row_kind,
+        columns: 0,
+        rows: 0,
+    }
 }
 
 // Whether a line from n on is marked.
@@ -106,21 +154,6 @@ fn with_batch(t: Ticket, row: bool, start: usize, lines: usize) -> Ticket
     }
 }
 
-// Whether there is a kernel of a kind at side n.
-fn has_kernel(kind: u32, n: usize) -> bool
-    ensures { λ r. ⌜ r ≡ hasKernel kind n ⌝ }
-{
-    (kind == 0) | ((kind == 1) & (n != 32))
-}
-
-// Number 2's rule.
-fn has_kinds(w: usize, h: usize, column_kind: u32, row_kind: u32) -> bool
-    ensures { λ r. ⌜ r ≡ hasKinds w h «column_kind» «row_kind» ⌝ }
-{
-    let dct = (column_kind == 0) & (row_kind == 0);
-    has_kernel(column_kind, h) & (has_kernel(row_kind, w) & (dct | (w == h)))
-}
-
 // How many lines a block has of a batch's kind.
 fn line_count(t: Ticket, row: bool) -> usize
     ensures { λ r. ⌜ r ≡ lineCount (t .w) (t .h) row ⌝ }
@@ -142,7 +175,7 @@ fn batch_outcome(
     if !(sizes::is_side(t.w) & sizes::is_side(t.h)) {
         return Outcome::Refused(Refusal::BadSize);
     }
-    if !has_kinds(t.w, t.h, t.column_kind, t.row_kind) {
+    if !block::has_kinds(t.w, t.h, t.column_kind, t.row_kind) {
         return Outcome::Refused(Refusal::BadKind);
     }
     let size = t.w * t.h;
@@ -172,9 +205,20 @@ pub fn column_batch(
     let Outcome::Done(_) = outcome else {
         return Batched { ticket, outcome };
     };
-    block::column_lines(ticket.w, ticket.h, ticket.column_kind, start, lines, residuals, scratch);
+    block::column_lines(
+        ticket.w,
+        ticket.h,
+        ticket.column_kind,
+        start,
+        lines,
+        residuals,
+        scratch,
+    );
     let after = with_batch(ticket, false, start, lines);
-    Batched { ticket: after, outcome }
+    Batched {
+        ticket: after,
+        outcome,
+    }
 }
 
 // A row batch: lines of the second pass, scaled where a block is, from the scratch buffer into the output.
@@ -191,9 +235,20 @@ pub fn row_batch(
     let Outcome::Done(_) = outcome else {
         return Batched { ticket, outcome };
     };
-    block::row_lines(ticket.w, ticket.h, ticket.row_kind, start, lines, scratch, output);
+    block::row_lines(
+        ticket.w,
+        ticket.h,
+        ticket.row_kind,
+        start,
+        lines,
+        scratch,
+        output,
+    );
     let after = with_batch(ticket, true, start, lines);
-    Batched { ticket: after, outcome }
+    Batched {
+        ticket: after,
+        outcome,
+    }
 }
 
 // A batch of either kind: a row batch or a column batch.
@@ -255,9 +310,12 @@ pub fn play(
     lines: &[usize],
     answered: &mut [i64],
 ) -> Batched
-    ensures ran { λ r. ⌜ playGiven r (now (scratch .exit)) (now (output .exit)) (now (answered .exit))
+    ensures { λ r. ⌜ playGiven r (now (scratch .exit)) (now (output .exit)) (now (answered .exit))
         ≡ played (now (residuals .entry)) (stateAt ticket (now (scratch .entry)) (now (output .entry)))
         (now (kinds .entry)) (now (starts .entry)) (now (lines .entry)) (now (answered .entry)) ⌝ }
+    ensures { λ r. ⌜ (AsSettled ticket (now (residuals .entry)) (now (scratch .entry)) (now (output .entry))
+        (now (kinds .entry)) (now (starts .entry)) (now (lines .entry)) (now (answered .entry))
+        (playGiven r (now (scratch .exit)) (now (output .exit)) (now (answered .exit)))) ⌝ }
 {
     let outcome = play_outcome(kinds, starts.len(), lines.len(), answered.len());
     let Outcome::Done(n) = outcome else {
@@ -266,12 +324,23 @@ pub fn play(
     let mut current = ticket;
     let mut i = 0;
     while i < n {
-        let b = any_batch(current, kinds[i] == 1, residuals, scratch, output, starts[i], lines[i]);
+        let b = any_batch(
+            current,
+            kinds[i] == 1,
+            residuals,
+            scratch,
+            output,
+            starts[i],
+            lines[i],
+        );
         let o = b.outcome;
         answered[i] = answer::signed(o);
         let next = b.ticket;
         current = next;
         i += 1;
     }
-    Batched { ticket: current, outcome }
+    Batched {
+        ticket: current,
+        outcome,
+    }
 }

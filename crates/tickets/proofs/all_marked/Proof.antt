@@ -11,7 +11,7 @@ with-lines-requires : tie.Need-with-lines-requires
 with-lines-requires c κs = search needs
 
 returns : tie.Need-returns
-returns c = 
+returns c =
     let a = c .before .args in
     ap (λ (m : ℕ). eqb m (a .mask)) (c .with-lines .ensures) ∙ all-marked-is (a .mask) (a .n) (c .before .pre) (search needs)
 

@@ -14,7 +14,7 @@ same-length-2 : tie.Need-same-length-2
 same-length-2 c = search needs
 
 returns : tie.Need-returns
-returns c = 
+returns c =
     let a = c .before .before .before .before .before .args in
     row-is (a .residuals .now) (a .scratch .now) (a .output .now) (a .ticket) (a .start) (a .lines) (c .before .row-batch .result) (c .before .before .before .before .if1 .taken) (c .before .row-batch .ensures)
 
@@ -25,7 +25,7 @@ same-length-3 : tie.Need-same-length-3
 same-length-3 c = search needs
 
 returns-2 : tie.Need-returns-2
-returns-2 c = 
+returns-2 c =
     let a = c .before .before .before .before .args in
     column-is (a .residuals .now) (a .scratch .now) (a .output .now) (a .ticket) (a .start) (a .lines) (c .before .column-batch .result) (c .before .before .before .if1 .left) (c .before .column-batch .ensures)
 

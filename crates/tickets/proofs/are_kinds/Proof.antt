@@ -30,7 +30,7 @@ shared-slice-read-if1 c = search needs
 
 returns : tie.Need-returns Inv-loop μ-loop
 unfolding areKinds
-returns c = 
+returns c =
     let kinds = c .before .before .before .before .args .kinds .now in
     sym (every-not (length kinds) (λ k. leb (getD kinds k 0) 1) (c .before .before .before .loop .i) (omega arith) (lt-leb (getD kinds (c .before .before .before .loop .i) 0) 1 (c .if1 .taken)))
 
@@ -41,13 +41,13 @@ loop-less : tie.Need-loop-less Inv-loop μ-loop
 loop-less c = search needs
 
 loop-again : tie.Need-loop-again Inv-loop μ-loop
-loop-again c = 
+loop-again c =
     let kinds = c .before .before .before .before .args .kinds .now in
     (omega arith, below-more (λ k. leb (getD kinds k 0) 1 ≡ true) _ (c .before .before .before .loop .inv .1) (le-leb (getD kinds (c .before .before .before .loop .i) 0) 1 (c .if1 .left)))
 
 returns-2 : tie.Need-returns-2 Inv-loop μ-loop
 unfolding areKinds
-returns-2 c = 
+returns-2 c =
     let kinds = c .before .before .args .kinds .now in
     sym (every-all (length kinds) (λ k. leb (getD kinds k 0) 1) (λ k b. c .before .loop .inv .1 k (omega arith)))
 

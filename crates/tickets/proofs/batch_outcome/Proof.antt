@@ -10,7 +10,8 @@ use Rattle.laws.proofs.Bool.{both}
 use Rattle.answer.specs.Answer.{lowest}
 use Rattle.sizes.specs.Size.{isSide}
 use Rattle.sizes.proofs.Side.{side-bounds}
-use Rattle.tickets.specs.Batch.{lineCount, hasKinds, outOfRange, batchAnswer}
+use Rattle.block.specs.Answer.{hasKinds}
+use Rattle.tickets.specs.Batch.{lineCount, outOfRange, batchAnswer}
 use Rattle.tickets.proofs.batch_outcome.Statement.{statement}
 use Rattle.tickets.proofs.batch_outcome.Tie as tie
 
@@ -49,13 +50,13 @@ unfolding batchAnswer lowest
 returns-2 c = rw (sides (c .before .before) .0, sides (c .before .before) .1, sym (c .before .has-kinds .ensures) ∙ not-true _ (c .if2 .taken))
 
 mul-size : tie.Need-mul-size
-mul-size c = 
+mul-size c =
     let s = sides (c .before .before .before) in
     omega (arith, mul-le-mul (side-bounds _ (s .0) .high) (side-bounds _ (s .1) .high))
 
 returns-3 : tie.Need-returns-3
 unfolding batchAnswer lowest
-returns-3 c = 
+returns-3 c =
     let s = sides (c .before .before .before .before) in rw (s .0, s .1, kinds (c .before .before), c .if3 .taken)
 
 line-count-requires : tie.Need-line-count-requires
@@ -66,7 +67,7 @@ out-of-range-requires c κs = search needs
 
 returns-4 : tie.Need-returns-4
 unfolding batchAnswer lowest
-returns-4 c = 
+returns-4 c =
     let s = sides (c .before .before .before .before .before .before .before) in
     rw (s .0, s .1, kinds (c .before .before .before .before .before), c .before .before .before .if3 .left, range-test (c .before) ∙ c .if4 .taken)
 
@@ -75,13 +76,13 @@ out-of-order-requires c κs = let s = sides (c .before .before .before .before .
 
 returns-5 : tie.Need-returns-5
 unfolding batchAnswer lowest
-returns-5 c = 
+returns-5 c =
     let s = sides (c .before .before .before .before .before .before .before .before .before) in
     rw (s .0, s .1, kinds (c .before .before .before .before .before .before .before), c .before .before .before .before .before .if3 .left, range-test (c .before .before .before) ∙ c .before .before .if4 .left, sym (c .before .out-of-order .ensures) ∙ c .if5 .taken)
 
 returns-6 : tie.Need-returns-6
 unfolding batchAnswer lowest
-returns-6 c = 
+returns-6 c =
     let s = sides (c .before .before .before .before .before .before .before .before .before) in
     rw (s .0, s .1, kinds (c .before .before .before .before .before .before .before), c .before .before .before .before .before .if3 .left, range-test (c .before .before .before) ∙ c .before .before .if4 .left, sym (c .before .out-of-order .ensures) ∙ c .if5 .left)
 

@@ -1,12 +1,13 @@
 -- `tickets::column_batch` meets its contract: the two ways out are the two cases of `batch`. Assumes nothing.
-use mathlib.Core.Path.{_≡_, refl, sym, ap, _∙_}
+use mathlib.Core.Path.{sym, ap, _∙_}
 use mathlib.Core.Bool.{false}
+use native.Mathlib.Omega.{arith}
 use borrow.Author.Needs.{needs}
 use lib.ListN.{length}
 use Rattle.answer.specs.Answer.{told}
+use Rattle.sizes.proofs.Side.{side-bounds}
 use Rattle.tickets.specs.Batch.{batchOf, linesOf}
-use Rattle.tickets.proofs.Batch.{Taken, taken, room-32, refused-is, accepted-is}
-use Rattle.tickets.proofs.Opened.{has-kernels}
+use Rattle.tickets.proofs.Batch.{Taken, taken, refused-is, accepted-is}
 use Rattle.tickets.proofs.column_batch.Statement.{statement}
 use Rattle.tickets.proofs.column_batch.Tie as tie
 
@@ -25,22 +26,22 @@ enum-told-2 : tie.Need-enum-told-2
 enum-told-2 c = search needs
 
 returns : tie.Need-returns
-returns c = 
+returns c =
     let a = c .before .before .before .args in
     refused-is (a .ticket) (batchOf false (a .start) (a .lines)) (a .residuals .now) (a .scratch .now) (c .before .before .batch-outcome .ensures) (c .enum-told2 .given .1)
 
 column-lines-requires : tie.Need-column-lines-requires
-column-lines-requires c κs = let k = is-taken (c .before) in (k .side-w, k .side-h, has-kernels _ _ _ _ (k .kinds) .0, k .room, k .long-source, k .long-target)
+column-lines-requires c κs = is-taken (c .before)
 
 with-batch-requires : tie.Need-with-batch-requires
-with-batch-requires c κs = room-32 (is-taken (c .before .before .before))
+with-batch-requires c κs = let k = is-taken (c .before .before .before) in omega (arith, side-bounds _ (k .wide))
 
 same-length : tie.Need-same-length
 same-length c = search needs
 
 returns-2 : tie.Need-returns-2
 unfolding linesOf
-returns-2 c = 
+returns-2 c =
     let a = c .before .before .before .before .before .before .before .args in
     accepted-is (a .ticket) (batchOf false (a .start) (a .lines)) (a .residuals .now) (a .scratch .now) (c .before .before .before .before .before .before .batch-outcome .ensures)
     (c .before .before .before .before .enum-told .given .1) (c .with-batch .ensures) (c .before .before .column-lines .ensures)

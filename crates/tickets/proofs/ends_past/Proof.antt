@@ -12,7 +12,7 @@ returns : tie.Need-returns
 returns c = let a = c .before .args in sym (lt-ltb (a .count) (a .start + a .lines) (omega arith))
 
 returns-2 : tie.Need-returns-2
-returns-2 c = 
+returns-2 c =
     let a = c .before .args in
     same-test (ltb (a .count - a .lines) (a .start)) (ltb (a .count) (a .start + a .lines))
     (λ e. lt-ltb (a .count) (a .start + a .lines) (omega (arith, ltb-true (a .count - a .lines) (a .start) e)))

@@ -18,7 +18,7 @@ any-from-requires-3 c κs = search needs
 
 returns : tie.Need-returns
 unfolding outOfOrder
-returns c = 
+returns c =
     rw (c .before .before .before .any-from .ensures, c .before .before .any-from2 .ensures, c .before .all-marked .ensures, c .any-from3 .ensures)
 
 pub out-of-order-spec : {M : Type 1} → statement M

@@ -11,7 +11,7 @@ use Rattle.answer.specs.Answer.{told}
 use Rattle.answer.specs.declared.Outcome.the-variants.{Done}
 use Rattle.tickets.specs.Run.{stateAt}
 use Rattle.tickets.specs.Play.{batchesOf}
-use Rattle.tickets.proofs.Played.{Playable, playable, Going, going-none, Within, Turn, turn-small, going-on, going-all, not-played}
+use Rattle.tickets.proofs.Played.{Playable, playable, Going, going-none, Within, Turn, turn-small, going-on, going-all, not-played, as-settled}
 use Rattle.tickets.proofs.play.Statement.{statement}
 use Rattle.tickets.proofs.play.Tie as tie
 
@@ -61,7 +61,8 @@ enum-told : tie.Need-enum-told Inv-loop μ-loop
 enum-told c = search needs
 
 returns : tie.Need-returns Inv-loop μ-loop
-returns c = not-played _ _ _ _ _ _ (c .before .before .play-outcome .ensures) (c .enum-told .given .1)
+returns c =
+    let e = not-played _ _ _ _ _ _ (c .before .before .play-outcome .ensures) (c .enum-told .given .1) in (e, as-settled _ _ _ _ _ _ _ _ _ e)
 
 loop-holds : tie.Need-loop-holds Inv-loop μ-loop
 loop-holds c = (omega arith, going-none _ _ _ _ _ _, refl, refl)
@@ -103,10 +104,13 @@ loop-less : tie.Need-loop-less Inv-loop μ-loop
 loop-less c = search needs
 
 loop-again : tie.Need-loop-again Inv-loop μ-loop
-loop-again c = 
-    let at = c .before .before .before .before in
-    (omega (arith, in-lists (c .before .before .before .before .before .before .before .before .before .before)), going-on (turned at) (toZ-ofZ {w = w64} (record { sfits = c .before .signed .ok }) ∙ c .before .signed .ensures),
-    at .any-batch .kept .1 .1 .1 .0 ∙ at .before .before .before .before .before .before .before .loop .inv .2, at .any-batch .kept .1 .1 .1 .1 .0 ∙ at .before .before .before .before .before .before .before .loop .inv .3)
+loop-again c =
+    let at = c .before .before .before .before in (
+      omega (arith, in-lists (c .before .before .before .before .before .before .before .before .before .before)),
+      going-on (turned at) (toZ-ofZ {w = w64} (record { sfits = c .before .signed .ok }) ∙ c .before .signed .ensures),
+      at .any-batch .kept .1 .1 .1 .0 ∙ at .before .before .before .before .before .before .before .loop .inv .2,
+      at .any-batch .kept .1 .1 .1 .1 .0 ∙ at .before .before .before .before .before .before .before .loop .inv .3,
+    )
 
 same-length : tie.Need-same-length Inv-loop μ-loop
 same-length c = c .before .loop .inv .2
@@ -118,10 +122,11 @@ same-length-3 : tie.Need-same-length-3 Inv-loop μ-loop
 same-length-3 c = stored-length (c .before .loop .inv .1 .stored)
 
 returns-2 : tie.Need-returns-2 Inv-loop μ-loop
-returns-2 c = 
+returns-2 c =
     let k = is-playable (c .before .before .before) in
-    going-all _ _ _ _ _ _ (record { ticket = c .before .loop .current; outcome = Done (c .before .before .before .outcome .given .0 .0) }) (c .before .loop .inv .1) (omega arith) (omega arith)
-    (sym (ap told (c .before .before .before .outcome .given .1)) ∙ c .before .before .before .before .before .play-outcome .ensures) refl
+    let e = going-all _ _ _ _ _ _ (record { ticket = c .before .loop .current; outcome = Done (c .before .before .before .outcome .given .0 .0) }) (c .before .loop .inv .1) (omega arith) (omega arith)
+    (sym (ap told (c .before .before .before .outcome .given .1)) ∙ c .before .before .before .before .before .play-outcome .ensures) refl in
+    (e, as-settled _ _ _ _ _ _ _ _ _ e)
 
 pub play-spec : {M : Type 1} → statement M
 play-spec =
