@@ -3,14 +3,14 @@ use mathlib.Core.Path.{_≡_, sym, ap, _∙_, subst}
 use mathlib.Core.Bool.{Bool, true, false, not, _&&_, _||_}
 use mathlib.Core.List.{List}
 use Prim.Native.Nat.{ℕ, _*_, _≤_, _<_}
-use native.Mathlib.Nat.{mul-le-mul}
-use lib.Dec.{ltb, eqb}
+use native.Mathlib.Nat.{mul-le-mul, lt-of-le-of-lt}
+use lib.Dec.{T, ltb, eqb, lit<}
 use lib.IntN.{ℤ}
 use lib.ListN.{length}
 use borrow.Author.Tests.{not-false, ltb-false}
 use Rattle.laws.proofs.Bool.{both, neither}
-use Rattle.answer.specs.Answer.{answers}
-use Rattle.answer.proofs.Answer.{passed}
+use Rattle.answer.specs.Answer.{answers, lowest, isSmall}
+use Rattle.answer.proofs.Answer.{passed, guarded-small}
 use Rattle.sizes.specs.Size.{isSide}
 use Rattle.sizes.proofs.Side.{side-bounds}
 use Rattle.kernels.specs.Kernel.{hasKernel}
@@ -33,7 +33,7 @@ pub record Accepted (w h ck rk : ℕ) (residuals : List ℤ) (ls lo : ℕ) : Typ
 
 -- of any answer n, so that openings, whose answer is another, use it too
 pub accepted : {w h ck rk : ℕ} {residuals : List ℤ} {ls lo m : ℕ} (n : ℕ)
-    → answers m ≡ Rattle.answer.specs.Answer.lowest (refusals w h ck rk residuals ls lo) n → Accepted w h ck rk residuals ls lo
+    → answers m ≡ lowest (refusals w h ck rk residuals ls lo) n → Accepted w h ck rk residuals ls lo
 unfolding refusals hasKinds
 accepted {w} {h} {ck} {rk} {residuals} {ls} {lo} n e =
     let a = passed _ _ _ _ _ e in
@@ -54,3 +54,12 @@ accepted {w} {h} {ck} {rk} {residuals} {ls} {lo} n e =
       output-long = ltb-false _ _ (m .1);
       small = not-false _ (d .0);
     }
+
+-- what a block gives back is small
+pub block-small : (w h ck rk : ℕ) (residuals : List ℤ) (ls lo : ℕ) → T (isSmall (blockAnswer w h ck rk residuals ls lo))
+unfolding blockAnswer refusals
+block-small w h ck rk residuals ls lo =
+    guarded-small _ _ _ _
+    (λ e.
+    let s = both (isSide w) (isSide h) (not-false _ e) in
+    lt-of-le-of-lt (size-small w h (s .0) (s .1)) (lit< tt))

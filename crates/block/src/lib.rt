@@ -126,7 +126,15 @@ pub fn block(
     ensures { λ _. ⌜ now (scratch .exit) ≡ scratchAfter w h «column_kind» «row_kind» (now (residuals .entry)) (now (scratch .entry)) (length (now (output .entry))) ⌝ }
     ensures { λ _. ⌜ now (output .exit) ≡ outputAfter w h «column_kind» «row_kind» (now (residuals .entry)) (length (now (scratch .entry))) (now (output .entry)) ⌝ }
 {
-    let answer = admit(w, h, column_kind, row_kind, residuals, scratch.len(), output.len());
+    let answer = admit(
+        w,
+        h,
+        column_kind,
+        row_kind,
+        residuals,
+        scratch.len(),
+        output.len(),
+    );
     let Outcome::Done(_) = answer else {
         return answer;
     };

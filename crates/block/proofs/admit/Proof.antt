@@ -41,12 +41,12 @@ has-kinds-requires c κs = search needs
 
 returns-2 : tie.Need-returns-2
 unfolding blockAnswer refusals lowest
-returns-2 c = 
+returns-2 c =
     let at1 = c .before .before in
     rw (sides at1, sym (c .before .has-kinds .ensures) ∙ not-true _ (c .if2 .taken))
 
 mul-size : tie.Need-mul-size
-mul-size c = 
+mul-size c =
     let at1 = c .before .before in
     let a = at1 .before .before .before .args in
     let s = both (isSide (a .w)) (isSide (a .h)) (sides at1) in
@@ -54,24 +54,24 @@ mul-size c =
 
 returns-3 : tie.Need-returns-3
 unfolding blockAnswer refusals lowest
-returns-3 c = 
+returns-3 c =
     let at1 = c .before .before .before in
     rw (sides at1, kinds (c .before), c .if3 .taken)
 
 residuals-ok-requires : tie.Need-residuals-ok-requires
-residuals-ok-requires c κs = 
+residuals-ok-requires c κs =
     let a = c .before .before .before .before .before .before .args in
     ltb-false (length (a .residuals .now)) (a .w * a .h) (neither _ _ (c .if3 .left) .0)
 
 returns-4 : tie.Need-returns-4
 unfolding blockAnswer refusals lowest
-returns-4 c = 
+returns-4 c =
     let at3 = c .before .before in
     rw (sides (at3 .before .before .before), kinds (at3 .before), at3 .if3 .left, sym (c .before .residuals-ok .ensures) ∙ not-true _ (c .if4 .taken))
 
 returns-5 : tie.Need-returns-5
 unfolding blockAnswer refusals lowest
-returns-5 c = 
+returns-5 c =
     let at3 = c .before .before in
     rw (sides (at3 .before .before .before), kinds (at3 .before), at3 .if3 .left, sym (c .before .residuals-ok .ensures) ∙ not-false _ (c .if4 .left))
 

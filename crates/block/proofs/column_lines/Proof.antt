@@ -12,7 +12,7 @@ fwd-shifts-requires : tie.Need-fwd-shifts-requires
 fwd-shifts-requires c κs = search needs
 
 run-requires : tie.Need-run-requires
-run-requires c κs = 
+run-requires c κs =
     let p = c .before .before .pre in
     (p .high, p .kernel, columns-room p (c .before .fwd-shifts .ensures .0))
 
@@ -21,7 +21,7 @@ same-length c = search needs
 
 returns : tie.Need-returns
 unfolding columnLines
-returns c = 
+returns c =
     let a = c .before .before .before .before .args in
     c .before .run .ensures
     ∙ ap (λ (s : ℕ). passLines (a .kind) (a .h) s (a .w) (a .residuals .now) (a .start) (a .count) (a .scratch .now)) (c .before .before .before .fwd-shifts .ensures .0)

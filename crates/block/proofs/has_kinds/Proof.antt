@@ -15,7 +15,7 @@ has-kernel-requires-2 c κs = search needs
 
 returns : tie.Need-returns
 unfolding hasKinds
-returns c = 
+returns c =
     let a = c .before .before .args in
     ap₂ (λ x y. x && (y && ((eqb (a .column-kind) 0 && eqb (a .row-kind) 0) || eqb (a .w) (a .h)))) (c .before .has-kernel .ensures) (c .has-kernel2 .ensures)
 

@@ -24,7 +24,7 @@ fwd-shifts-requires : tie.Need-fwd-shifts-requires
 fwd-shifts-requires c κs = search needs
 
 run-requires : tie.Need-run-requires
-run-requires c κs = 
+run-requires c κs =
     let p = c .before .before .pre in
     (p .wide, p .kernel, rows-room p (c .before .fwd-shifts .ensures .1))
 
@@ -38,7 +38,7 @@ mul-scale-2 : tie.Need-mul-scale-2
 mul-scale-2 c = let a = c .before .before .before .before .before .before .before .args in omega (arith, rows-end (a .start) (a .count) (c .before .before .before .before .before .before .before .pre))
 
 scale-requires : tie.Need-scale-requires
-scale-requires c κs = 
+scale-requires c κs =
     let a = c .before .before .before .before .before .before .before .args in
     subst (λ (l : ℕ). a .start * a .w + a .count * a .w ≤ l) (sym (c .before .before .before .before .run .kept .1 .1 .1 .1 .1 .1 .1 .0))
     (rows-end (a .start) (a .count) (c .before .before .before .before .before .before .before .pre) .0)
@@ -47,7 +47,7 @@ same-length : tie.Need-same-length
 same-length c = search needs
 
 returns : tie.Need-returns
-returns c = 
+returns c =
     let at = c .before .before .before .before .before .before in
     let a = at .before .before .before .args in
     let p = at .before .before .before .pre in
@@ -59,7 +59,7 @@ same-length-2 : tie.Need-same-length-2
 same-length-2 c = search needs
 
 returns-2 : tie.Need-returns-2
-returns-2 c = 
+returns-2 c =
     let at = c .before .before .before in
     let a = at .before .before .before .args in
     rows-plain (a .w) (a .h) (a .kind) (a .start) (a .count) (a .scratch .now) (a .output .now)

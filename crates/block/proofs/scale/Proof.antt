@@ -53,7 +53,7 @@ loop-again c =
     let l = c .before .before .before .loop in
     let a = c .before .before .before .before .args in
     let before = ap (λ (d : List ℤ). getD d (a .at + l .i) (pos 0)) (l .inv .0 .is)
-        ∙ stores-out (a .numbers .now) (l .i) (λ k. a .at + k) (scaledAt (a .numbers .now) (a .at)) (a .at + l .i) (pos 0) (λ k b e. omega arith) in (
+    ∙ stores-out (a .numbers .now) (l .i) (λ k. a .at + k) (scaledAt (a .numbers .now) (a .at)) (a .at + l .i) (pos 0) (λ k b e. omega arith) in (
       stored-turn (l .inv .0) refl
           (read-32 _ (c .rect-scale .ok) ∙ c .rect-scale .ensures
           ∙ ap (λ (z : ℤ). wrap32 (scaled z)) (read-32 _ (c .before .rect-scale-arg .given) ∙ before)),
@@ -64,7 +64,7 @@ same-length : tie.Need-same-length Inv-loop μ-loop
 same-length c = stored-length (c .before .loop .inv .0)
 
 returns : tie.Need-returns Inv-loop μ-loop
-returns c = 
+returns c =
     let a = c .before .before .args in
     stored-all (c .before .loop .inv .0) (omega arith) ∙ stores-laid (a .numbers .now) (a .at) (a .n) (c .before .before .pre) (pos 0) (scaledAt (a .numbers .now) (a .at))
 

@@ -1,0 +1,40 @@
+// The C interface: numbers and slices (a pointer, then a length), nothing else. An answer is a signed 64-bit number: 0 or more for
+// an answer, minus document 01's number for a refusal. include/mizdrek.h declares these functions.
+ghost use mathlib.Core.Path.{_≡_};
+ghost use lib.ListN.{length};
+ghost use Rattle.answer.specs.Answer.{signedOf};
+ghost use Rattle.sizes.specs.Size.{dcTxScale};
+ghost use Rattle.block.specs.Answer.{blockAnswer, scratchAfter, outputAfter};
+ghost use Rattle.wht.specs.Wht.{whtAnswer, whtAfter};
+
+#[no_mangle]
+pub extern "C" fn mizdrek_dc_tx_scale(w: usize, h: usize) -> i64
+    ensures { λ r. ⌜ r ≡ signedOf (dcTxScale w h) ⌝ }
+{
+    answer::signed(sizes::dc_tx_scale(w, h))
+}
+
+#[no_mangle]
+pub extern "C" fn mizdrek_block(
+    w: usize,
+    h: usize,
+    column_kind: u32,
+    row_kind: u32,
+    residuals: &[i32],
+    scratch: &mut [i32],
+    output: &mut [i32],
+) -> i64
+    ensures { λ r. ⌜ r ≡ signedOf (blockAnswer w h «column_kind» «row_kind» (now (residuals .entry)) (length (now (scratch .entry))) (length (now (output .entry)))) ⌝ }
+    ensures { λ _. ⌜ now (scratch .exit) ≡ scratchAfter w h «column_kind» «row_kind» (now (residuals .entry)) (now (scratch .entry)) (length (now (output .entry))) ⌝ }
+    ensures { λ _. ⌜ now (output .exit) ≡ outputAfter w h «column_kind» «row_kind» (now (residuals .entry)) (length (now (scratch .entry))) (now (output .entry)) ⌝ }
+{
+    answer::signed(block::block(w, h, column_kind, row_kind, residuals, scratch, output))
+}
+
+#[no_mangle]
+pub extern "C" fn mizdrek_fwht4x4(residuals: &[i32], output: &mut [i32]) -> i64
+    ensures { λ r. ⌜ r ≡ signedOf (whtAnswer (now (residuals .entry)) (length (now (output .entry)))) ⌝ }
+    ensures { λ _. ⌜ now (output .exit) ≡ whtAfter (now (residuals .entry)) (now (output .entry)) ⌝ }
+{
+    answer::signed(wht::fwht4x4(residuals, output))
+}
