@@ -11,6 +11,7 @@ use lib.ListN.{length}
 use Rattle.laws.specs.Store.{tab}
 use Rattle.laws.specs.Table.{every}
 use Rattle.laws.proofs.Bool.{both, either}
+use Rattle.laws.proofs.Every.{every-all, every-each}
 use Rattle.laws.proofs.Laid.{tab-ext}
 use Rattle.answer.specs.Answer.{Answer}
 use Rattle.block.specs.Block.{columnAt, rowAt}
@@ -18,7 +19,7 @@ use Rattle.tickets.specs.Batch.{Batch, lineCount}
 use Rattle.tickets.specs.Open.{newTicket}
 use Rattle.tickets.specs.Run.{State, stateAt, Step, nth, step, stateAfter, run}
 use Rattle.tickets.specs.Condition3.{Condition3, covers, answerTo, accepted, covered, ticketOf, held, stateOf, settled}
-use Rattle.tickets.proofs.Mark.{within-lt, every-all, every-each, none-zero}
+use Rattle.tickets.proofs.Mark.{within-lt, none-zero}
 use Rattle.tickets.proofs.Held.{held-none}
 use Rattle.tickets.proofs.Opened.{Opened, opened}
 use Rattle.tickets.proofs.Step.{in-range, Refuses, cases, covers-kind, step-is}
@@ -42,7 +43,7 @@ module _ (w h : ℕ) (bs : List Batch) where
       (cases w h done b)
 
   -- is one that there is
-  inside : (i : ℕ) (row : Bool) (j : ℕ) → covered w h bs i row j ≡ true → j < lineCount w h row
+  pub inside : (i : ℕ) (row : Bool) (j : ℕ) → covered w h bs i row j ≡ true → j < lineCount w h row
   unfolding covered
   inside zero row j e = absurd (false≢true e)
   inside (suc i) row j e = ⊎-elim (inside i row j) (λ a. newly i row j a .0) (either (covered w h bs i row j) _ e)

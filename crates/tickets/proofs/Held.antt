@@ -12,11 +12,12 @@ use lib.IntN.{ℤ, pos}
 use lib.ListN.{length, getD}
 use lib.Seq.{ext-getD}
 use Rattle.laws.specs.Store.{tab, laid}
+use Rattle.laws.proofs.Bool.{or-true, or-false}
 use Rattle.laws.proofs.Laid.{length-tab, getD-tab, length-laid, laid-before, laid-at, laid-after}
 use Rattle.laws.proofs.Place.{split}
 use Rattle.tickets.specs.Mark.{within}
 use Rattle.tickets.specs.Condition3.{held}
-use Rattle.tickets.proofs.Mark.{within-in, within-out, or-true, or-false}
+use Rattle.tickets.proofs.Mark.{within-in, within-out}
 
 module _ (n : ℕ) (p : ℕ → Bool) (g : ℕ → ℕ → ℤ) (d : List ℤ) where
   pub held-length : length (held n p g d) ≡ length d
@@ -33,6 +34,10 @@ module _ (n : ℕ) (p : ℕ → Bool) (g : ℕ → ℕ → ℤ) (d : List ℤ) w
       held-at (j * n + f) b
       ∙ ap₂ (λ (i k : ℕ). cond (p i) (g i k) (getD d (j * n + f) (pos 0))) (digits-div j bf) (digits-mod j bf)
       ∙ rw e
+
+  -- a place whose line p doesn't name
+  pub held-kept : (q : ℕ) → q < length d → p (q / n) ≡ false → getD (held n p g d) q (pos 0) ≡ getD d q (pos 0)
+  held-kept q b e = held-at q b ∙ rw e
 
 -- no line at all
 pub held-none : (n : ℕ) (g : ℕ → ℕ → ℤ) (d : List ℤ) → held n (λ j. false) g d ≡ d

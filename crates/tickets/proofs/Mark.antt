@@ -1,7 +1,7 @@
 -- Laws of marks: a mask and its lines settle each other, and what the code's operations on masks say of lines. Assumes nothing.
 use mathlib.Core.Path.{_≡_, refl, sym, ap, ap₂, _∙_}
-use mathlib.Core.Logic.{_⊎_, inl, inr, ⊎-elim}
-use mathlib.Core.Bool.{Bool, true, false, cond, not, _&&_, _||_, true≢false}
+use mathlib.Core.Logic.{⊎-elim}
+use mathlib.Core.Bool.{Bool, true, false, cond, not, _||_}
 use Prim.Native.Nat.{ℕ, zero, suc, _+_, _-_, _*_, _/_, _%_, _^_, _<_, _≤_}
 use native.Mathlib.Nat.{pow-suc, mul-one, one-mul, div-one, lt-of-lt-of-le}
 use native.Mathlib.Omega.{arith}
@@ -10,45 +10,9 @@ use lib.Dec.{T, leb, ltb, eqb, leb·suc-suc, leb·suc-zero, leb·zero}
 use lib.Pow.{pow-pos, pow-mono, ones-lt, shl-exact, shl-lt, shr-shr, shr-lt}
 use lib.Bits.{bitOr, or-shr, or-mod, or-lt, shifted-even, shifted-half}
 use Rattle.laws.specs.Table.{every}
-use Rattle.laws.proofs.Bool.{both}
+use Rattle.laws.proofs.Bool.{both, decided, or-true, or-already, same-test}
+use Rattle.laws.proofs.Every.{every-all, every-each, every-same}
 use Rattle.tickets.specs.Mark.{marked, maskOf, anyFrom, allMarked, within, withLines}
-
--- ---- tests
-
-pub decided : (x : Bool) → (x ≡ true) ⊎ (x ≡ false)
-decided true = inl refl
-decided false = inr refl
-
-pub or-true : (x : Bool) → (x || true) ≡ true
-or-true true = refl
-or-true false = refl
-
-pub or-false : (x : Bool) → (x || false) ≡ x
-or-false true = refl
-or-false false = refl
-
--- two tests that imply each other are the same
-pub same-test : (x y : Bool) → (x ≡ true → y ≡ true) → (y ≡ true → x ≡ true) → x ≡ y
-same-test true y f g = sym (f refl)
-same-test false true f g = g refl
-same-test false false f g = refl
-
-pub every-all : (n : ℕ) (p : ℕ → Bool) → ((j : ℕ) → j < n → p j ≡ true) → every n p ≡ true
-every-all zero p f = refl
-every-all (suc n) p f = rw (f n (omega arith)) (every-all n p (λ j b. f j (omega arith)))
-
-pub every-each : (n : ℕ) (p : ℕ → Bool) → every n p ≡ true → (j : ℕ) → j < n → p j ≡ true
-every-each zero p e j b = absurd (omega arith)
-every-each (suc n) p e j b =
-    let h = both (p n) (every n p) e in
-    ⊎-elim (λ a. rw (eqb-true j n a) (h .0)) (λ a. every-each n p (h .1) j (let k : j ≡ n → ⊥ = eqb-false j n a in omega arith)) (decided (eqb j n))
-
-pub every-not : (n : ℕ) (p : ℕ → Bool) (j : ℕ) → j < n → p j ≡ false → every n p ≡ false
-every-not n p j b e = ⊎-elim (λ a. absurd (true≢false (sym (every-each n p a j b) ∙ e))) (λ a. a) (decided (every n p))
-
-pub every-same : (n : ℕ) (p q : ℕ → Bool) → ((j : ℕ) → j < n → p j ≡ q j) → every n p ≡ every n q
-every-same zero p q f = refl
-every-same (suc n) p q f = ap₂ _&&_ (f n (omega arith)) (every-same n p q (λ j b. f j (omega arith)))
 
 -- ---- a mask and its lines
 
@@ -212,17 +176,12 @@ within-lt s n j e = let h = both (leb s j) (ltb j (s + n)) e in (leb-true s j (h
 pub within-out : (s n j : ℕ) → (s ≤ j → j < s + n → ⊥) → within s n j ≡ false
 within-out s n j f = ⊎-elim (λ a. let h = within-lt s n j a in absurd (f (h .0) (h .1))) (λ a. a) (decided (within s n j))
 
-already : (x y : Bool) → (y ≡ true → x ≡ true) → (x || y) ≡ x
-already true y f = refl
-already false true f = sym (f refl)
-already false false f = refl
-
 module _ (m n : ℕ) (few : n ≤ 32) (small : m < 2 ^ 32) where
   fills : every n (marked m) ≡ true → withLines m 0 n ≡ m
   unfolding withLines
   fills e =
       mask-same 32 (λ j. marked m j || within 0 n j) (marked m)
-      (λ j b. already (marked m j) (within 0 n j) (λ w. every-each n (marked m) e j (omega (arith, within-lt 0 n j w))))
+      (λ j b. or-already (marked m j) (within 0 n j) (λ w. every-each n (marked m) e j (omega (arith, within-lt 0 n j w))))
       ∙ mask-marked 32 m small
 
   filled : withLines m 0 n ≡ m → every n (marked m) ≡ true

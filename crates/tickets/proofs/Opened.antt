@@ -1,17 +1,16 @@
 -- What an accepted opening knows of its arguments, and the two ways out of `open`, whose tests are a block's. Assumes nothing.
-use mathlib.Core.Path.{_≡_, refl, sym, ap, _∙_}
-use mathlib.Core.Bool.{Bool, true, false, cond}
-use mathlib.Core.List.{List, [], _∷_}
+use mathlib.Core.Path.{_≡_, sym, ap, _∙_}
+use mathlib.Core.Bool.{true}
+use mathlib.Core.List.{List}
 use Prim.Native.Nat.{ℕ, _*_, _<_, _≤_}
-use native.Mathlib.Omega.{arith}
 use borrow.Author.Tests.{not-false}
 use lib.IntN.{ℤ, pos, natAbs}
 use lib.ListN.{getD}
-use Rattle.answer.specs.Answer.{answers, refuses, lowest, told, numberOf}
+use Rattle.answer.specs.Answer.{answers, told, numberOf}
 use Rattle.answer.specs.declared.Outcome.{Outcome}
 use Rattle.answer.specs.declared.Outcome.the-variants.{Done, Refused}
 use Rattle.answer.specs.declared.Refusal.{Refusal}
-use Rattle.answer.proofs.Answer.{passed}
+use Rattle.answer.proofs.Answer.{passed, refused-alike, accepted-alike}
 use Rattle.residual.proofs.Residual.{residual-size}
 use Rattle.block.specs.Answer.{hasKinds, refusals, blockAnswer}
 use Rattle.block.proofs.Accepted.{Accepted, accepted}
@@ -33,23 +32,6 @@ opened w h ck rk residuals ls lo e =
       small = residual-size (w * h) residuals (a .small);
     }
 
--- ---- a call with other answers, refused alike
-
-alike-refused : (rs : List (Bool × ℕ)) (m n k : ℕ) → refuses k ≡ lowest rs m → refuses k ≡ lowest rs n
-unfolding lowest
-alike-refused [] m n k e = absurd (let z : _≡_ {A = ℕ} 0 1 = cc in omega arith)
-alike-refused (r ∷ rs) m n k e = pick (r .0) (alike-refused rs m n k) e
-  where
-    pick : (b : Bool) → (refuses k ≡ lowest rs m → refuses k ≡ lowest rs n)
-        → refuses k ≡ cond b (refuses (r .1)) (lowest rs m) → refuses k ≡ cond b (refuses (r .1)) (lowest rs n)
-    pick true f e = e
-    pick false f e = f e
-
-alike-answered : (rs : List (Bool × ℕ)) (m n k : ℕ) → answers k ≡ lowest rs m → answers n ≡ lowest rs n
-unfolding lowest
-alike-answered [] m n k e = refl
-alike-answered (r ∷ rs) m n k e = let p = passed (r .0) (r .1) rs m k e in rw (p .0) (alike-answered rs m n k (p .1))
-
 -- ---- the two ways out of an opening
 
 module _ {w h ck rk : ℕ} {residuals : List ℤ} {ls lo : ℕ} {o : Outcome} {t : Ticket} where
@@ -57,12 +39,12 @@ module _ {w h ck rk : ℕ} {residuals : List ℤ} {ls lo : ℕ} {o : Outcome} {t
       → Opening w h ck rk residuals ls lo (record { ticket = t; outcome = o })
   unfolding blockAnswer openAnswer
   open-refused {x} e r z =
-      let a = alike-refused (refusals w h ck rk residuals ls lo) (w * h) 0 (numberOf x) (sym (ap told r) ∙ e) in
+      let a = refused-alike (refusals w h ck rk residuals ls lo) (w * h) 0 (numberOf x) (sym (ap told r) ∙ e) in
       record { answer = ap told r ∙ a; ticket = rw (sym a) z }
 
   pub open-done : {n : ℕ} → told o ≡ blockAnswer w h ck rk residuals ls lo → o ≡ Done n → t ≡ newTicket w h ck rk
       → Opening w h ck rk residuals ls lo (record { ticket = t; outcome = Done 0 })
   unfolding blockAnswer openAnswer
   open-done {n} e d z =
-      let a = alike-answered (refusals w h ck rk residuals ls lo) (w * h) 0 n (sym (ap told d) ∙ e) in
+      let a = accepted-alike (refusals w h ck rk residuals ls lo) (w * h) 0 n (sym (ap told d) ∙ e) in
       record { answer = a; ticket = rw (sym a) z }

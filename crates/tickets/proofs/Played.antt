@@ -13,38 +13,37 @@ use lib.IntN.{ℤ, pos}
 use lib.ListN.{length, getD, set, drop}
 use lib.Seq.{drop-cons, set-at, append-snoc}
 use Rattle.laws.specs.Store.{stores, tab}
-use Rattle.laws.proofs.Bool.{either, neither}
+use Rattle.laws.proofs.Bool.{neither, decided}
+use Rattle.laws.proofs.Front.{front, map-tab}
 use Rattle.laws.proofs.Laid.{length-tab, getD-tab}
 use Rattle.laws.proofs.Store.{Stored, stored-none, stored-turn, stored-all, stored-length}
 use Rattle.answer.specs.Answer.{Answer, answers, refuses, lowest, after, told, signedOf, isSmall}
 use Rattle.answer.specs.declared.Outcome.{Outcome}
 use Rattle.answer.specs.declared.Outcome.the-variants.{Done, Refused}
 use Rattle.answer.specs.declared.Refusal.{Refusal}
-use Rattle.answer.proofs.Answer.{passed, the-answer, lowest-small}
+use Rattle.answer.proofs.Answer.{passed, the-answer, small-if, guarded-small}
 use Rattle.tickets.specs.Batch.{Batch, batchOf, lineCount, outOfRange, outOfOrder, batchAnswer, batch}
 use Rattle.tickets.specs.Play.{batchesOf, areKinds, playAnswer, Played, stateUnless, playedAs, played, stepGiven, playGiven, AsSettled}
 use Rattle.tickets.specs.Run.{State, stateAt, Step, Run, nth, step, stateAfter, run}
 use Rattle.tickets.specs.declared.Batched.{Batched}
 use Rattle.tickets.specs.declared.Ticket.{Ticket}
 use Rattle.tickets.proofs.Condition3.{condition3}
-use Rattle.tickets.proofs.Mark.{decided}
 use Rattle.tickets.proofs.Step.{in-range, step-column, step-row}
 
 -- ---- a batch's answer is a number of 64 bits
 
-skip : (b : Bool) (k : ℕ) (rs : List (Bool × ℕ)) (n : ℕ) → (b ≡ false → T (isSmall (lowest rs n))) → T (isSmall (lowest ((b, k) ∷ rs) n))
+skip : (b : Bool) (k : ℕ) (rs : List (Bool × ℕ)) (n : ℕ) → T (isSmall (lowest rs n)) → T (isSmall (lowest ((b, k) ∷ rs) n))
 unfolding lowest
-skip true k rs n f = tt
-skip false k rs n f = f refl
+skip b k rs n t = small-if b k (lowest rs n) (λ e. t)
 
 answer-small : (t : Ticket) (b : Batch) (source target : ℕ) → T (isSmall (batchAnswer t b source target))
 unfolding batchAnswer
 answer-small t b source target =
-    skip _ 1 _ _ (λ e. skip _ 2 _ _ (λ e. skip _ 3 _ _ (λ e. skip _ 5 _ _ (λ e.
-    lowest-small _ _ (small (in-range (lineCount (t .w) (t .h) (b .row)) (b .start) (b .lines) e .few))))))
+    skip _ 1 _ _ (skip _ 2 _ _ (skip _ 3 _ _
+    (guarded-small _ 5 _ _ (λ e. few (in-range (lineCount (t .w) (t .h) (b .row)) (b .start) (b .lines) e .few)))))
   where
-    small : {n : ℕ} → n ≤ 8 → n < 2 ^ 63
-    small l = omega arith
+    few : {n : ℕ} → n ≤ 8 → n < 2 ^ 63
+    few l = omega arith
 
 pub step-small : (residuals : List ℤ) (s : State) (b : Batch) → T (isSmall (step residuals s b .answer))
 unfolding batch
@@ -53,26 +52,6 @@ step-small residuals s b =
     (λ e. rw (step-row residuals s b e) (answer-small (s .ticket) b (length (s .scratch)) (length (s .output))))
     (λ e. rw (step-column residuals s b e) (answer-small (s .ticket) b (length residuals) (length (s .scratch))))
     (decided (b .row))
-
--- ---- the written answers
-
-map-end : {A B : Type 0} (f : A → B) (l : List A) (a : A) → map f (l ++ (a ∷ [])) ≡ map f l ++ (f a ∷ [])
-map-end f [] a = refl
-map-end f (x ∷ l) a = ap (λ r. f x ∷ r) (map-end f l a)
-
-map-tab : {A B : Type 0} (f : A → B) (n : ℕ) (g : ℕ → A) → map f (tab n g) ≡ tab n (λ i. f (g i))
-unfolding tab
-map-tab f zero g = refl
-map-tab f (suc n) g = map-end f (tab n g) (g n) ∙ ap (λ r. r ++ (f (g n) ∷ [])) (map-tab f n g)
-
--- the first n places, stored
-front : (d : List ℤ) (n : ℕ) (g : ℕ → ℤ) → n ≤ length d → stores d n (λ k. k) g ≡ tab n g ++ drop n d
-unfolding stores tab
-front d zero g room = refl
-front d (suc n) g room =
-    ap (λ (l : List ℤ). set l n (g n)) (front d n g (omega arith) ∙ ap (λ (r : List ℤ). tab n g ++ r) (drop-cons d n (pos 0) (omega arith)))
-    ∙ set-at (tab n g) (getD d n (pos 0)) (drop (suc n) d) (g n) n (length-tab n g)
-    ∙ sym (append-snoc (tab n g) (g n) (drop (suc n) d))
 
 -- ---- a list that is played, whatever its batches give back and leave
 
@@ -184,7 +163,7 @@ module _ (residuals : List ℤ) (s : State) (kinds starts lines : List ℕ) (roo
       done-is (run residuals s bs) s room r a o
       (inv .state ∙ ap (stateAfter residuals s bs) e)
       (stored-all (inv .stored) e
-      ∙ front room (length bs) (writtenAt residuals s bs) (omega (arith, many))
+      ∙ front room (length bs) (writtenAt residuals s bs) (pos 0) (omega (arith, many))
       ∙ ap₂ (λ (l : List ℤ) (k : ℕ). l ++ drop k room) (sym (map-tab signedOf (length bs) f)) (sym (length-tab (length bs) f)))
 
   pub not-played : {o : Outcome} {x : Refusal} → told o ≡ playAnswer kinds (length starts) (length lines) (length room) → o ≡ Refused x

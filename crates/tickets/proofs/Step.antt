@@ -13,7 +13,8 @@ use lib.Dec.{eqb, ltb}
 use lib.IntN.{ℤ, pos}
 use lib.ListN.{length, getD}
 use Rattle.laws.specs.Table.{every}
-use Rattle.laws.proofs.Bool.{both, either, neither}
+use Rattle.laws.proofs.Bool.{both, either, neither, decided, or-false, and-false}
+use Rattle.laws.proofs.Every.{every-all, every-each, every-same}
 use Rattle.answer.specs.Answer.{Answer, answers, refuses, lowest, after}
 use Rattle.sizes.proofs.Side.{side-bounds}
 use Rattle.block.specs.Block.{columnAt, rowAt}
@@ -24,7 +25,7 @@ use Rattle.tickets.specs.Batch.{Batch, lineCount, outOfRange, outOfOrder
 use Rattle.tickets.specs.Run.{State, Step, columnStep, rowStep, step}
 use Rattle.tickets.specs.Condition3.{covers, answerTo, accepted, ticketOf, held, stateOf}
 use Rattle.tickets.specs.declared.Ticket.{Ticket}
-use Rattle.tickets.proofs.Mark.{or-false, every-all, every-each, every-same, marked-mask, mask-same, decided}
+use Rattle.tickets.proofs.Mark.{marked-mask, mask-same}
 use Rattle.tickets.proofs.Held.{held-length, held-line, held-same, held-more}
 use Rattle.tickets.proofs.Opened.{Opened}
 
@@ -99,10 +100,6 @@ rows-mask : (row : Bool) (p : ℕ → Bool) (s n : ℕ)
 unfolding withLines
 rows-mask true p s n = mask-same 32 _ _ (λ j l. ap (λ (x : Bool). x || within s n j) (marked-mask 32 p j l))
 rows-mask false p s n = mask-same 32 _ _ (λ j l. sym (or-false (p j)))
-
-and-false : (x : Bool) → (x && false) ≡ false
-and-false true = refl
-and-false false = refl
 
 covers-own : (b : Batch) (row : Bool) (j : ℕ) → b .row ≡ row → covers b row j ≡ within (b .start) (b .lines) j
 unfolding covers

@@ -4,3 +4,4 @@ pub mod Open
 pub mod Run
 pub mod Condition3
 pub mod Play
+pub mod Reading

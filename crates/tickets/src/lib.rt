@@ -205,15 +205,9 @@ pub fn column_batch(
     let Outcome::Done(_) = outcome else {
         return Batched { ticket, outcome };
     };
-    block::column_lines(
-        ticket.w,
-        ticket.h,
-        ticket.column_kind,
-        start,
-        lines,
-        residuals,
-        scratch,
-    );
+    let w = ticket.w;
+    let h = ticket.h;
+    block::column_lines(w, h, ticket.column_kind, start, lines, residuals, scratch);
     let after = with_batch(ticket, false, start, lines);
     Batched {
         ticket: after,
@@ -235,15 +229,9 @@ pub fn row_batch(
     let Outcome::Done(_) = outcome else {
         return Batched { ticket, outcome };
     };
-    block::row_lines(
-        ticket.w,
-        ticket.h,
-        ticket.row_kind,
-        start,
-        lines,
-        scratch,
-        output,
-    );
+    let w = ticket.w;
+    let h = ticket.h;
+    block::row_lines(w, h, ticket.row_kind, start, lines, scratch, output);
     let after = with_batch(ticket, true, start, lines);
     Batched {
         ticket: after,

@@ -9,7 +9,7 @@ use borrow.Author.Tests.{le-leb, lt-leb}
 use lib.Dec.{leb}
 use lib.ListN.{length, getD}
 use Rattle.tickets.specs.Play.{areKinds}
-use Rattle.tickets.proofs.Mark.{every-all, every-not}
+use Rattle.laws.proofs.Every.{every-all, every-not}
 use Rattle.tickets.proofs.are_kinds.Statement.{statement}
 use Rattle.tickets.proofs.are_kinds.Tie as tie
 

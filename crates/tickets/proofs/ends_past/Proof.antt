@@ -4,7 +4,7 @@ use Prim.Native.Nat.{_+_, _-_}
 use native.Mathlib.Omega.{arith}
 use borrow.Author.Tests.{lt-ltb, ltb-true}
 use lib.Dec.{ltb}
-use Rattle.tickets.proofs.Mark.{same-test}
+use Rattle.laws.proofs.Bool.{same-test}
 use Rattle.tickets.proofs.ends_past.Statement.{statement}
 use Rattle.tickets.proofs.ends_past.Tie as tie
 

@@ -31,7 +31,9 @@ returns c =
     refused-is (a .ticket) (batchOf true (a .start) (a .lines)) (a .scratch .now) (a .output .now) (c .before .before .batch-outcome .ensures) (c .enum-told2 .given .1)
 
 row-lines-requires : tie.Need-row-lines-requires
-row-lines-requires c κs = is-taken (c .before)
+row-lines-requires c κs =
+    let k = is-taken (c .before) in
+    record { wide = k .wide; high = k .high; kernel = k .kernel; ends = omega (arith, k .ends); source-long = k .source-long; target-long = k .target-long }
 
 with-batch-requires : tie.Need-with-batch-requires
 with-batch-requires c κs = let k = is-taken (c .before .before .before) in omega (arith, side-bounds _ (k .high))
