@@ -1,6 +1,8 @@
 pub mod Bool
 pub mod Congruence
 pub mod Divide
+pub mod Every
+pub mod Front
 pub mod Integer
 pub mod Laid
 pub mod Place

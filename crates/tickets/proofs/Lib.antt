@@ -1,0 +1,9 @@
+pub mod Batch
+pub mod Condition3
+pub mod Examples
+pub mod Held
+pub mod Mark
+pub mod Opened
+pub mod Played
+pub mod Reading
+pub mod Step
