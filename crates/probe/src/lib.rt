@@ -6,7 +6,6 @@ ghost use lib.ListN.{length};
 ghost use Rattle.kernels.specs.Adst.{adst16, adst4, adst8};
 ghost use Rattle.kernels.specs.Dct.{dct32, dctRows};
 ghost use Rattle.answer.specs.Answer.{signedOf};
-ghost use Rattle.sizes.specs.Size.{dcTxScale};
 ghost use Rattle.probe.specs.Lanes.{lanesAnswer, lanesAfter};
 ghost use Rattle.probe.specs.Shifts.{shiftPair};
 
@@ -69,13 +68,6 @@ pub extern "C" fn probe_shifts(w: usize, h: usize) -> u32
     }
     let shifts = sizes::fwd_shifts(w, h);
     shifts.first * 16 + shifts.second
-}
-
-#[no_mangle]
-pub extern "C" fn probe_dc_tx_scale(w: usize, h: usize) -> i64
-    ensures { λ r. ⌜ r ≡ signedOf (dcTxScale w h) ⌝ }
-{
-    answer::signed(sizes::dc_tx_scale(w, h))
 }
 
 // The lane pass: lines lines from start on, out of line lines. It answers the number of lines.
