@@ -1,29 +1,27 @@
 -- A lent list of batches, played: after i turns the state is what the first i batches leave, and the first i answers are written.
 -- Assumes nothing.
 use mathlib.Core.Path.{_≡_, refl, sym, ap, ap₂, _∙_}
-use mathlib.Core.Bool.{Bool, true, false, cond, not, _||_}
+use mathlib.Core.Bool.{Bool, false, _||_}
 use mathlib.Core.Logic.{⊎-elim}
-use mathlib.Core.List.{List, [], _∷_, _++_, map, append-assoc}
-use Prim.Native.Nat.{ℕ, zero, suc, _+_, _*_, _<_, _≤_, _^_, _%_}
+use mathlib.Core.List.{List, _∷_, _++_, map}
+use Prim.Native.Nat.{ℕ, _+_, _<_, _≤_, _^_}
 use native.Mathlib.Numerals.{add-one}
 use native.Mathlib.Omega.{arith}
-use borrow.Author.Tests.{not-false, ltb-false, eqb-true}
-use lib.Dec.{T, eqb, leb, ltb}
+use borrow.Author.Tests.{ltb-false}
+use lib.Dec.{T, eqb, ltb}
 use lib.IntN.{ℤ, pos}
 use lib.ListN.{length, getD, set, drop}
-use lib.Seq.{drop-cons, set-at, append-snoc}
-use Rattle.laws.specs.Store.{stores, tab}
 use Rattle.laws.proofs.Bool.{neither, decided}
 use Rattle.laws.proofs.Front.{front, map-tab}
 use Rattle.laws.proofs.Laid.{length-tab, getD-tab}
-use Rattle.laws.proofs.Store.{Stored, stored-none, stored-turn, stored-all, stored-length}
-use Rattle.answer.specs.Answer.{Answer, answers, refuses, lowest, after, told, signedOf, isSmall}
+use Rattle.laws.proofs.Store.{Stored, stored-none, stored-turn, stored-all}
+use Rattle.answer.specs.Answer.{Answer, answers, lowest, after, told, signedOf, isSmall}
 use Rattle.answer.specs.declared.Outcome.{Outcome}
 use Rattle.answer.specs.declared.Outcome.the-variants.{Done, Refused}
 use Rattle.answer.specs.declared.Refusal.{Refusal}
 use Rattle.answer.proofs.Answer.{passed, the-answer, small-if, guarded-small}
-use Rattle.tickets.specs.Batch.{Batch, batchOf, lineCount, outOfRange, outOfOrder, batchAnswer, batch}
-use Rattle.tickets.specs.Play.{batchesOf, areKinds, playAnswer, Played, stateUnless, playedAs, played, stepGiven, playGiven, AsSettled}
+use Rattle.tickets.specs.Batch.{Batch, batchOf, lineCount, batchAnswer, batch}
+use Rattle.tickets.specs.Play.{batchesOf, playAnswer, Played, stateUnless, playedAs, played, stepGiven, playGiven, AsSettled}
 use Rattle.tickets.specs.Run.{State, stateAt, Step, Run, nth, step, stateAfter, run}
 use Rattle.tickets.specs.declared.Batched.{Batched}
 use Rattle.tickets.specs.declared.Ticket.{Ticket}

@@ -71,19 +71,19 @@ mul-any-batch : tie.Need-mul-any-batch Inv-loop μ-loop
 mul-any-batch c = omega (arith, in-lists (c))
 
 shared-slice-read-any-batch : tie.Need-shared-slice-read-any-batch Inv-loop μ-loop
-shared-slice-read-any-batch c = in-lists (c .before) .in-kinds
+shared-slice-read-any-batch c = omega (arith, in-lists (c .before))
 
 mul-any-batch-2 : tie.Need-mul-any-batch-2 Inv-loop μ-loop
 mul-any-batch-2 c = omega (arith, in-lists (c .before .before .before))
 
 shared-slice-read-any-batch-2 : tie.Need-shared-slice-read-any-batch-2 Inv-loop μ-loop
-shared-slice-read-any-batch-2 c = in-lists (c .before .before .before .before) .in-starts
+shared-slice-read-any-batch-2 c = omega (arith, in-lists (c .before .before .before .before))
 
 mul-any-batch-3 : tie.Need-mul-any-batch-3 Inv-loop μ-loop
 mul-any-batch-3 c = omega (arith, in-lists (c .before .before .before .before))
 
 shared-slice-read-any-batch-3 : tie.Need-shared-slice-read-any-batch-3 Inv-loop μ-loop
-shared-slice-read-any-batch-3 c = in-lists (c .before .before .before .before .before) .in-lines
+shared-slice-read-any-batch-3 c = omega (arith, in-lists (c .before .before .before .before .before))
 
 any-batch-requires : tie.Need-any-batch-requires Inv-loop μ-loop
 any-batch-requires c κs = search needs
