@@ -50,7 +50,8 @@ module _ (w h : ℕ) (bs : List Batch) where
   unfolding covered
   ready zero j e = absurd (false≢true e)
   ready (suc i) j e =
-      let all : every w (covered w h bs i false) ≡ true = ⊎-elim (ready i j) (λ a. not-false _ (newly i true j a .1)) (either (covered w h bs i true j) _ e) in
+      let all : every w (covered w h bs i false) ≡ true =
+      ⊎-elim (ready i j) (λ a. not-false _ (newly i true j a .1)) (either (covered w h bs i true j) _ e) in
       every-all w (covered w h bs (suc i) false) (λ k b. rw (every-each w (covered w h bs i false) all k b))
 
 -- ---- the list
@@ -68,7 +69,12 @@ module _ (w h ck rk : ℕ) (residuals scratch output : List ℤ) (o : Opened w h
 
   first-is : from ≡ at 0
   unfolding stateOf ticketOf covered
-  first-is = rw (none-zero (λ j. false) (λ j b. refl), held-none h (numberAt w h ck rk residuals false) scratch, held-none w (numberAt w h ck rk residuals true) output)
+  first-is =
+      rw (
+        none-zero (λ j. false) (λ j b. refl),
+        held-none h (numberAt w h ck rk residuals false) scratch,
+        held-none w (numberAt w h ck rk residuals true) output,
+      )
 
   state-is : (i : ℕ) → stateAfter residuals from bs i ≡ at i
   unfolding stateAfter

@@ -57,7 +57,8 @@ same-played : {a a' : Answer} {s s' : State} {l l' : List ℤ} → a ≡ a' → 
     → _≡_ {A = Played} (record { answer = a; state = s; answered = l }) (record { answer = a'; state = s'; answered = l' })
 same-played p q r = rw (p, q, r)
 
-done-is : (all : Run) (s : State) (room : List ℤ) (r : Batched) {a : Answer} {n : ℕ} {scratch output answered : List ℤ} → told (r .outcome) ≡ a → r .outcome ≡ Done n
+done-is : (all : Run) (s : State) (room : List ℤ) (r : Batched) {a : Answer} {n : ℕ} {scratch output answered : List ℤ}
+    → told (r .outcome) ≡ a → r .outcome ≡ Done n
     → stateAt (r .ticket) scratch output ≡ all .state → answered ≡ map signedOf (all .answers) ++ drop (length (all .answers)) room
     → playGiven r scratch output answered ≡ playedAs all a s room
 unfolding playedAs
@@ -75,7 +76,8 @@ pub record Playable (n : ℕ) (kinds : List ℕ) (starts lines room : ℕ) : Typ
   pub long-lines : n ≤ lines
   pub long-room : n ≤ room
 
-pub playable : (n : ℕ) (kinds : List ℕ) (starts lines room : ℕ) → answers n ≡ playAnswer kinds starts lines room → Playable n kinds starts lines room
+pub playable : (n : ℕ) (kinds : List ℕ) (starts lines room : ℕ) → answers n ≡ playAnswer kinds starts lines room
+    → Playable n kinds starts lines room
 unfolding playAnswer
 playable n kinds starts lines room e =
     let s2 = passed _ 2 _ _ n e in
@@ -102,7 +104,8 @@ abbrev pub writtenAt : List ℤ → State → List Batch → ℕ → ℤ
 writtenAt residuals s bs k = signedOf (step residuals (stateAfter residuals s bs k) (nth bs k) .answer)
 
 -- after i turns
-pub record Going (residuals : List ℤ) (s : State) (bs : List Batch) (room : List ℤ) (i : ℕ) (t : Ticket) (scratch output answered : List ℤ) : Type 0 where
+pub record Going (residuals : List ℤ) (s : State) (bs : List Batch) (room : List ℤ) (i : ℕ) (t : Ticket)
+    (scratch output answered : List ℤ) : Type 0 where
   pub state : stateAt t scratch output ≡ stateAfter residuals s bs i
   pub stored : Stored answered room i (λ k. k) (writtenAt residuals s bs)
 
@@ -130,7 +133,8 @@ module _ {residuals : List ℤ} {s : State} {kinds starts lines : List ℕ} {roo
       rw (ap (λ (x : Step). x .answer) turn-is)
       (step-small residuals (stateAfter residuals s (batchesOf kinds starts lines) i) (nth (batchesOf kinds starts lines) i))
 
-  pub going-on : {v : ℤ} → v ≡ signedOf (told (r .outcome)) → Going residuals s (batchesOf kinds starts lines) room (i + 1) (r .ticket) scratch' output' (set answered i v)
+  pub going-on : {v : ℤ} → v ≡ signedOf (told (r .outcome))
+      → Going residuals s (batchesOf kinds starts lines) room (i + 1) (r .ticket) scratch' output' (set answered i v)
   unfolding stateAfter
   going-on h =
       record {

@@ -31,9 +31,11 @@ module _ (w h ck rk : ℕ) (residuals scratch output : List ℤ) (accepted : ope
         columns-marked = marked-mask 32 column;
         rows-marked = marked-mask 32 row;
         columns-hold = λ j f b e.
-            held-line h column (numberAt w h ck rk residuals false) scratch j f b (omega (arith, digits-lt (inside w h bs (length bs) false j e) b, o .scratch-long)) e;
+            held-line h column (numberAt w h ck rk residuals false) scratch j f b
+            (omega (arith, digits-lt (inside w h bs (length bs) false j e) b, o .scratch-long)) e;
         rows-hold = λ j f b e.
-            held-line w row (numberAt w h ck rk residuals true) output j f b (omega (arith, digits-lt (inside w h bs (length bs) true j e) b, mul-comm h w, o .output-long)) e;
+            held-line w row (numberAt w h ck rk residuals true) output j f b
+            (omega (arith, digits-lt (inside w h bs (length bs) true j e) b, mul-comm h w, o .output-long)) e;
         scratch-long = held-length h column (numberAt w h ck rk residuals false) scratch;
         output-long = held-length w row (numberAt w h ck rk residuals true) output;
         scratch-kept = held-kept h column (numberAt w h ck rk residuals false) scratch;

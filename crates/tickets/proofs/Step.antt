@@ -53,14 +53,16 @@ pub record Refuses (a : Answer) : Type 0 where
   pub is : a ≡ refuses number
 
 -- two tests: the call is accepted with neither, or refused
-either-way : (x y : Bool) (j k n : ℕ) → ((lowest ((x, j) ∷ (y, k) ∷ []) n ≡ answers n) × (x ≡ false) × (y ≡ false)) ⊎ Refuses (lowest ((x, j) ∷ (y, k) ∷ []) n)
+either-way : (x y : Bool) (j k n : ℕ)
+    → ((lowest ((x, j) ∷ (y, k) ∷ []) n ≡ answers n) × (x ≡ false) × (y ≡ false)) ⊎ Refuses (lowest ((x, j) ∷ (y, k) ∷ []) n)
 unfolding lowest
 either-way true y j k n = inr (record { number = j; is = refl })
 either-way false true j k n = inr (record { number = k; is = refl })
 either-way false false j k n = inl (refl, refl, refl)
 
 pub cases : (w h : ℕ) (p : ℕ → Bool) (b : Batch)
-    → ((answerTo w h p b ≡ answers (b .lines)) × (outOfRange (lineCount w h (b .row)) (b .start) (b .lines) ≡ false) × ((b .row && not (every w p)) ≡ false))
+    → ((answerTo w h p b ≡ answers (b .lines)) × (outOfRange (lineCount w h (b .row)) (b .start) (b .lines) ≡ false)
+    × ((b .row && not (every w p)) ≡ false))
     ⊎ Refuses (answerTo w h p b)
 unfolding answerTo
 cases w h p b = either-way (outOfRange (lineCount w h (b .row)) (b .start) (b .lines)) (b .row && not (every w p)) 5 6 (b .lines)
@@ -134,15 +136,23 @@ row-lines : (t : Ticket) (b : Batch) (source target : List ℤ) → b .row ≡ t
 unfolding linesOf
 row-lines t b source target e = rw e
 
-pub step-column : (residuals : List ℤ) (s : State) (b : Batch) → b .row ≡ false
-    → step residuals s b ≡ columnStep s (batch (s .ticket) b residuals (s .scratch))
-unfolding step
-step-column residuals s b e = ap (λ (x : Bool). cond x (rowStep s (batch (s .ticket) b (s .scratch) (s .output))) (columnStep s (batch (s .ticket) b residuals (s .scratch)))) e
+module _ (residuals : List ℤ) (s : State) (b : Batch) where
+  abbrev asRow : Given
+  asRow = batch (s .ticket) b (s .scratch) (s .output)
 
-pub step-row : (residuals : List ℤ) (s : State) (b : Batch) → b .row ≡ true
-    → step residuals s b ≡ rowStep s (batch (s .ticket) b (s .scratch) (s .output))
-unfolding step
-step-row residuals s b e = ap (λ (x : Bool). cond x (rowStep s (batch (s .ticket) b (s .scratch) (s .output))) (columnStep s (batch (s .ticket) b residuals (s .scratch)))) e
+  abbrev asColumn : Given
+  asColumn = batch (s .ticket) b residuals (s .scratch)
+
+  by-kind : {is : Bool} → b .row ≡ is
+      → step residuals s b ≡ cond is (rowStep s asRow) (columnStep s asColumn)
+  unfolding step
+  by-kind e = ap (λ (x : Bool). cond x (rowStep s asRow) (columnStep s asColumn)) e
+
+  pub step-column : b .row ≡ false → step residuals s b ≡ columnStep s asColumn
+  step-column e = by-kind e
+
+  pub step-row : b .row ≡ true → step residuals s b ≡ rowStep s asRow
+  step-row e = by-kind e
 
 given-same : {a a' : Answer} {t t' : Ticket} {d d' : List ℤ} → a ≡ a' → t ≡ t' → d ≡ d'
     → _≡_ {A = Given} (record { answer = a; ticket = t; buffer = d }) (record { answer = a'; ticket = t'; buffer = d' })
@@ -237,7 +247,8 @@ module _ (w h ck rk : ℕ) (residuals scratch output : List ℤ) (o : Opened w h
 
   others : (row : Bool) → b .row ≡ not row → (j : ℕ) → done row j ≡ then row j
   others row k j =
-      sym (ap (λ (x : Bool). done row j || (accepted answer && x)) (covers-other b row j k) ∙ ap (λ (x : Bool). done row j || x) (and-false (accepted answer)) ∙ or-false (done row j))
+      sym (ap (λ (x : Bool). done row j || (accepted answer && x)) (covers-other b row j k)
+      ∙ ap (λ (x : Bool). done row j || x) (and-false (accepted answer)) ∙ or-false (done row j))
 
   -- the scratch and the output, where the lines that p names hold their numbers
   abbrev scratchOf : (ℕ → Bool) → List ℤ
@@ -257,12 +268,14 @@ module _ (w h ck rk : ℕ) (residuals scratch output : List ℤ) (o : Opened w h
   column-written k e r =
       let room : b .start + b .lines ≤ w = in-range w (b .start) (b .lines) (rw k at r) .end in
       column-lines t b residuals (scratchOf (done false)) k
-      ∙ (column-lines-exact w h ck residuals (o .block .wide) (o .block .high) (o .block .column-kernel) (o .small) (b .start) (b .lines) (scratchOf (done false)) room
+      ∙ (column-lines-exact w h ck residuals (o .block .wide) (o .block .high) (o .block .column-kernel) (o .small)
+      (b .start) (b .lines) (scratchOf (done false)) room
       ∙ held-more h (done false) (numberAt w h ck rk residuals false) scratch (b .start) (b .lines) (omega (arith, side-bounds h (o .block .high)))
       (le-trans (mul-le-mul-right h room) (o .block .scratch-long))
       ∙ held-same h _ (then false) (numberAt w h ck rk residuals false) scratch (own false k e))
 
-  row-written : b .row ≡ true → answer ≡ answers (b .lines) → fitsIn → inTurn → linesOf t b (scratchOf (done false)) (outputOf (done true)) ≡ outputOf (then true)
+  row-written : b .row ≡ true → answer ≡ answers (b .lines) → fitsIn → inTurn
+      → linesOf t b (scratchOf (done false)) (outputOf (done true)) ≡ outputOf (then true)
   unfolding ticketOf numberAt
   row-written k e r q =
       let room : b .start + b .lines ≤ h = in-range h (b .start) (b .lines) (rw k at r) .end in
@@ -271,7 +284,8 @@ module _ (w h ck rk : ℕ) (residuals scratch output : List ℤ) (o : Opened w h
       ∙ (row-lines-exact w h ck residuals (o .block .wide) (o .block .high) (o .block .column-kernel) (o .small) rk (o .block .row-kernel)
       (scratchOf (done false))
       (λ j f bj bf.
-      held-line h (done false) (numberAt w h ck rk residuals false) scratch j f bf (omega (arith, digits-lt bj bf, o .block .scratch-long)) (every-each w (done false) all j bj))
+      held-line h (done false) (numberAt w h ck rk residuals false) scratch j f bf
+      (omega (arith, digits-lt bj bf, o .block .scratch-long)) (every-each w (done false) all j bj))
       (b .start) (b .lines) (outputOf (done true)) room
       ∙ held-more w (done true) (numberAt w h ck rk residuals true) output (b .start) (b .lines) (omega (arith, side-bounds w (o .block .wide)))
       (le-trans (mul-le-mul-right w room) (omega (arith, mul-comm h w, o .block .output-long)))
