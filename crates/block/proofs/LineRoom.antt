@@ -7,7 +7,7 @@ use native.Mathlib.Omega.{arith}
 use Rattle.sizes.specs.Shift.{firstShift, secondShift}
 use Rattle.sizes.proofs.Side.{side-bounds}
 use Rattle.sizes.proofs.Shift.{shift-bounds}
-use Rattle.lanes.specs.Room.{Room}
+use Rattle.lines.specs.Room.{Room}
 use Rattle.block.specs.Lines.{LinesRoom}
 use Rattle.block.proofs.Accepted.{size-small}
 

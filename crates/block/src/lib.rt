@@ -69,19 +69,12 @@ pub fn row_lines(
     }
 }
 
-// Whether there is a kernel of a kind at side n.
-pub fn has_kernel(kind: u32, n: usize) -> bool
-    ensures { λ r. ⌜ r ≡ hasKernel kind n ⌝ }
-{
-    (kind == 0) | ((kind == 1) & (n != 32))
-}
-
 // Number 2's rule.
 pub fn has_kinds(w: usize, h: usize, column_kind: u32, row_kind: u32) -> bool
     ensures { λ r. ⌜ r ≡ hasKinds w h «column_kind» «row_kind» ⌝ }
 {
     let dct = (column_kind == 0) & (row_kind == 0);
-    has_kernel(column_kind, h) & (has_kernel(row_kind, w) & (dct | (w == h)))
+    kernels::has_kernel(column_kind, h) & (kernels::has_kernel(row_kind, w) & (dct | (w == h)))
 }
 
 // A block's answer, from its arguments alone: scratch and output are the lengths of those buffers.

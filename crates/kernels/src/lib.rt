@@ -1,6 +1,7 @@
 // The transform kernels, as tables. A pass takes its table once and lends it to its loops.
 ghost use mathlib.Core.Path.{_≡_};
 ghost use Rattle.kernels.specs.Dct.{dct32, dctRows};
+ghost use Rattle.kernels.specs.Kernel.{hasKernel};
 ghost use Rattle.kernels.specs.Adst.{adst16, adst8, adst4};
 
 const DCT32: [i8; 1024] = [
@@ -1767,4 +1768,11 @@ pub fn adst4() -> [i8; 16]
     ensures { λ r. ⌜ r ≡ adst4 ⌝ }
 {
     ADST4
+}
+
+// Whether there is a kernel of a kind at side n.
+pub fn has_kernel(kind: u32, n: usize) -> bool
+    ensures { λ r. ⌜ r ≡ hasKernel kind n ⌝ }
+{
+    (kind == 0) | ((kind == 1) & (n != 32))
 }

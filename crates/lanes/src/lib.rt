@@ -4,11 +4,10 @@ ghost use mathlib.Core.Bool.{true};
 ghost use lib.ListN.{length};
 ghost use Rattle.laws.specs.Store.{stores};
 ghost use Rattle.sizes.specs.Size.{isSide};
-ghost use Rattle.kernels.specs.Adst.{adst16, adst4, adst8};
 ghost use Rattle.kernels.specs.Dct.{dct32, dctRows};
 ghost use Rattle.kernels.specs.Kernel.{hasKernel};
 ghost use Rattle.lines.specs.Pass.{passAt, passLines};
-ghost use Rattle.lanes.specs.Room.{Room, LineRoom, onLine, Reading};
+ghost use Rattle.lines.specs.Room.{Room, LineRoom, onLine};
 
 // Line j of a DCT of side 4.
 fn dct4_line(t: &[i8; 16], line: usize, j: usize, src: &[i32], dst: &mut [i32], shift: u32)
@@ -106,26 +105,6 @@ fn dct32_line(t: &[i8; 1024], line: usize, j: usize, src: &[i32], dst: &mut [i32
     lines::put(32, &o, dst, j * 32);
 }
 
-// Line j of an ADST of side n, whose table has frequency f, sample k at place f × fs + k × ks.
-fn adst_line(
-    n: usize,
-    t: &[i8],
-    fs: usize,
-    ks: usize,
-    line: usize,
-    j: usize,
-    src: &[i32],
-    dst: &mut [i32],
-    shift: u32,
-)
-    requires { ⌜ LineRoom n line j shift (length (now src)) (length (now dst)) × Reading n fs ks (now t) ⌝ }
-    ensures { λ _. ⌜ now (dst .exit) ≡ stores (now (dst .entry)) n (onLine n j) (passAt 1 n shift line (now (src .entry)) j) ⌝ }
-{
-    let mut o = [0i32; 16];
-    lines::frequencies(n, 0, 1, n, t, fs, ks, src, j, line, &mut o, shift);
-    lines::put(n, &o, dst, j * n);
-}
-
 pub fn fdct4_1d(shift: u32, line: usize, start: usize, count: usize, src: &[i32], dst: &mut [i32])
     requires { ⌜ Room 4 line start count shift (length (now src)) (length (now dst)) ⌝ }
     ensures { λ _. ⌜ now (dst .exit) ≡ passLines 0 4 shift line (now (src .entry)) start count (now (dst .entry)) ⌝ }
@@ -181,7 +160,7 @@ pub fn fadst4_1d(shift: u32, line: usize, start: usize, count: usize, src: &[i32
     let t = kernels::adst4();
     let mut i: usize = 0;
     while i < count {
-        adst_line(4, &t, 4, 1, line, start + i, src, dst, shift);
+        lines::dense_line(4, &t, 4, 1, line, start + i, src, dst, shift);
         i += 1;
     }
 }
@@ -193,7 +172,7 @@ pub fn fadst8_1d(shift: u32, line: usize, start: usize, count: usize, src: &[i32
     let t = kernels::adst8();
     let mut i: usize = 0;
     while i < count {
-        adst_line(8, &t, 1, 8, line, start + i, src, dst, shift);
+        lines::dense_line(8, &t, 1, 8, line, start + i, src, dst, shift);
         i += 1;
     }
 }
@@ -205,7 +184,7 @@ pub fn fadst16_1d(shift: u32, line: usize, start: usize, count: usize, src: &[i3
     let t = kernels::adst16();
     let mut i: usize = 0;
     while i < count {
-        adst_line(16, &t, 16, 1, line, start + i, src, dst, shift);
+        lines::dense_line(16, &t, 16, 1, line, start + i, src, dst, shift);
         i += 1;
     }
 }

@@ -1,3 +1,7 @@
+pub mod Arm
+pub mod Line
+pub mod Loop
 pub mod Reach
+pub mod Reading
 pub mod Stage
 pub mod Sum

@@ -1,11 +1,14 @@
 -- Where the pieces of a line read and store lies within their buffers. Assumes nothing.
 use mathlib.Core.Path.{_≡_, sym, _∙_}
 use Prim.Native.Nat.{ℕ, _+_, _*_, _≤_, _<_}
-use native.Mathlib.Nat.{zero-mul, mul-one, mul-le-mul-left, lt-of-lt-of-le}
+use native.Mathlib.Nat.{zero-mul, mul-one, mul-le-mul-left}
 use native.Mathlib.Omega.{arith}
+use mathlib.Core.List.{List}
 use lib.Arith.{digits-lt}
+use lib.IntN.{ℤ}
+use lib.ListN.{length}
 use Rattle.lines.specs.Line.{place, InReach}
-use Rattle.lines.proofs.Stage.{odd-place}
+use Rattle.lines.proofs.Stage.{IsKernel, odd-place}
 
 pub zeroth-reach : (n : ℕ) {lt lx lo : ℕ} → 0 < lt → 0 < lx → 0 < lo → InReach 1 0 1 1 n 1 0 1 lt lx lo
 zeroth-reach n a b c =
@@ -20,15 +23,12 @@ zeroth-reach n a b c =
     row r z = rw z (zero-mul n)
 
 -- a stage's odd frequencies, where the table is that of side n
-pub odds-reach : (n h s : ℕ) {lt lx lo : ℕ} → n ≡ 2 * h * s → 0 < h → 0 < s → n * n ≤ lt → h ≤ lx → n ≤ lo
-    → InReach h s (2 * s) h n 1 0 1 lt lx lo
-odds-reach n h s {lt} {lx} {lo} e a b t x o =
+pub odds-reach : (n h s : ℕ) {fs lx lo : ℕ} {ts : List ℤ} → n ≡ 2 * h * s → 0 < h → 0 < s → IsKernel n fs ts → h ≤ lx → n ≤ lo
+    → InReach h s (2 * s) h fs 1 0 1 (length ts) lx lo
+odds-reach n h s {fs} {lx} {lo} {ts} e a b t x o =
     record {
       some = a;
-      table = λ r k i j.
-          let p = below r i in
-          let d : place s (2 * s) r * n + k < n * n = digits-lt p (inside k j) in
-          omega (arith, mul-one k);
+      table = λ r k i j. let d = t .inside (place s (2 * s) r) k (below r i) (inner k j) in omega (arith, mul-one k);
       line = λ k i. omega arith;
       stored = λ r i. let p = below r i in omega arith;
     }
@@ -36,8 +36,8 @@ odds-reach n h s {lt} {lx} {lo} e a b t x o =
     below : (r : ℕ) → r < h → place s (2 * s) r < n
     below r i = let d : (2 * r + 1) * s + 0 < 2 * h * s = digits-lt (omega arith) b in omega (arith, odd-place s r)
 
-    inside : (k : ℕ) → k < h → k < n
-    inside k i =
+    inner : (k : ℕ) → k < h → k < n
+    inner k i =
         let d : k * s + 0 < 2 * h * s = digits-lt (omega arith) b in
         let m : k * 1 ≤ k * s = mul-le-mul-left k b in
         omega (arith, mul-one k)

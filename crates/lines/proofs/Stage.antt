@@ -21,15 +21,16 @@ use Rattle.fixed.proofs.Round.{roundShift-cong}
 use Rattle.kernels.specs.Dct.{dct, dct32}
 use Rattle.kernels.proofs.Dct.{dct-scale}
 use Rattle.kernels.proofs.Mirror.{Mirrors, turned, turned-even, turned-odd}
-use Rattle.lines.specs.Line.{lineAt, rowSum, place, rounded, Butterfly, sumOf, diffOf}
+use Rattle.lines.specs.Line.{lineAt, rowSum, place, rounded, Butterfly, Gathered, sumOf, diffOf}
 
 -- frequency f of a line x of n numbers, exactly
 unfoldable pub dctSum : ℕ → ℕ → (ℕ → ℤ) → ℤ
 dctSum n f x = sumTo n (λ k. dct n f k *ℤ x k)
 
--- ts is the kernel of side n, row by row
-pub record IsKernel (n : ℕ) (ts : List ℤ) : Type 0 where
-  pub entry : (f k : ℕ) → f < n → k < n → getD ts (f * n + k) (pos 0) ≡ dct n f k
+-- ts has the kernel of side n, frequency f from place f × fs on
+pub record IsKernel (n fs : ℕ) (ts : List ℤ) : Type 0 where
+  pub entry : (f k : ℕ) → f < n → k < n → getD ts (f * fs + k) (pos 0) ≡ dct n f k
+  pub inside : (f k : ℕ) → f < n → k < n → f * fs + k < length ts
 
 -- m numbers are left of a line x of n: modulo 2 ^ 32 they are y, whose frequencies at side m are every s-th of x at side n
 pub record Folded (n s m : ℕ) (x : ℕ → ℤ) (xs : List ℤ) (at stride : ℕ) : Type 0 where
@@ -82,10 +83,10 @@ module _ (n h s : ℕ) (x : ℕ → ℤ) (mirrors : Mirrors (2 * h)) where
         }
 
     -- what `odds` computes
-    odd-is : (shift : ℕ) (ts : List ℤ) → IsKernel n ts → n ≡ 2 * h * s → 0 < s → (q : ℕ) → q < h
-        → rounded shift h ts s (2 * s) n 1 ds 0 1 q ≡ roundShift shift (dctSum n (place s (2 * s) q) x)
+    odd-is : (shift fs : ℕ) (ts : List ℤ) → IsKernel n fs ts → n ≡ 2 * h * s → 0 < s → (q : ℕ) → q < h
+        → rounded shift h ts s (2 * s) fs 1 ds 0 1 q ≡ roundShift shift (dctSum n (place s (2 * s) q) x)
     unfolding rowSum
-    odd-is shift ts t e some q l =
+    odd-is shift fs ts t e some q l =
         roundShift-cong shift
         (cong-trans
         (sum-cong h _ (λ k. dct (2 * h) (2 * q + 1) k *ℤ (f .y k -ℤ f .y (2 * h - 1 - k)))
@@ -98,11 +99,11 @@ module _ (n h s : ℕ) (x : ℕ → ℤ) (mirrors : Mirrors (2 * h)) where
         below : place s (2 * s) q < n
         below = let d : (2 * q + 1) * s + 0 < 2 * h * s = digits-lt (omega arith) some in omega (arith, here)
 
-        factor : (k : ℕ) → k < h → getD ts (place s (2 * s) q * n + k * 1) (pos 0) ≡ dct (2 * h) (2 * q + 1) k
+        factor : (k : ℕ) → k < h → getD ts (place s (2 * s) q * fs + k * 1) (pos 0) ≡ dct (2 * h) (2 * q + 1) k
         factor k i =
             let d : k * s + 0 < 2 * h * s = digits-lt (omega arith) some in
             let m : k * 1 ≤ k * s = mul-le-mul-left k some in
-            ap (λ (j : ℕ). getD ts (place s (2 * s) q * n + j) (pos 0)) (mul-one k) ∙ t .entry (place s (2 * s) q) k below (omega arith)
+            ap (λ (j : ℕ). getD ts (place s (2 * s) q * fs + j) (pos 0)) (mul-one k) ∙ t .entry (place s (2 * s) q) k below (omega arith)
             ∙ ap₂ (λ (a c : ℕ). dct a c k) e here ∙ dct-scale (2 * h) s (2 * q + 1) k some
 
         difference : (k : ℕ) → k < h → Cong (2 ^ 32) (lineAt ds 0 1 k) (f .y k -ℤ f .y (2 * h - 1 - k))
@@ -170,30 +171,44 @@ begin n shift xs at stride o long =
       long = long;
     }
 
-pub stage : (n h s : ℕ) {shift : ℕ} {x : ℕ → ℤ} {xs : List ℤ} {at stride : ℕ} {o ss ds o' ts : List ℤ} → n ≡ 2 * h * s → 0 < s
-    → Mirrors (2 * h) → IsKernel n ts → Partly n s (2 * h) shift x xs at stride o → Butterfly h xs at stride ss ds
-    → o' ≡ stores o h (place s (2 * s)) (rounded shift h ts s (2 * s) n 1 ds 0 1)
+-- the same from a line that was gathered
+pub begin-gathered : (n shift : ℕ) {src : List ℤ} {at stride : ℕ} {xs : List ℤ} (o : List ℤ) → Gathered n src at stride xs → n ≤ length o
+    → Partly n 1 n shift (lineAt src at stride) xs 0 1 o
+begin-gathered n shift {src} {at} {stride} {xs} o g long =
+    record {
+      left = record {
+        y = lineAt src at stride;
+        held = λ k l. cong-eq (ap (λ (i : ℕ). getD xs i (pos 0)) (first k) ∙ g .numbers k l);
+        rows = λ g l. ap (λ (i : ℕ). dctSum n i (lineAt src at stride)) (mul-one g);
+      };
+      settled = record { at = λ q r b c d. absurd (omega arith) };
+      long = long;
+    }
+
+pub stage : (n h s : ℕ) {shift fs : ℕ} {x : ℕ → ℤ} {xs : List ℤ} {at stride : ℕ} {o ss ds o' ts : List ℤ} → n ≡ 2 * h * s → 0 < s
+    → Mirrors (2 * h) → IsKernel n fs ts → Partly n s (2 * h) shift x xs at stride o → Butterfly h xs at stride ss ds
+    → o' ≡ stores o h (place s (2 * s)) (rounded shift h ts s (2 * s) fs 1 ds 0 1)
     → Partly n (2 * s) h shift x ss 0 1 o'
-stage n h s {shift} {x} {xs} {at} {stride} {o} {ss} {ds} {o'} {ts} e some mirrors t p b u =
+stage n h s {shift} {fs} {x} {xs} {at} {stride} {o} {ss} {ds} {o'} {ts} e some mirrors t p b u =
     record {
       left = folded-next n h s x mirrors xs at stride ss ds (p .left) b;
       settled = subst (Settled n (2 * s) shift x) (sym u)
-          (settled-next n h s shift x e some o (rounded shift h ts s (2 * s) n 1 ds 0 1) (p .long) (p .settled)
-          (odd-is n h s x mirrors xs at stride ss ds (p .left) b shift ts t e some));
-      long = omega (arith, p .long, ap length u, length-stores o h (place s (2 * s)) (rounded shift h ts s (2 * s) n 1 ds 0 1));
+          (settled-next n h s shift x e some o (rounded shift h ts s (2 * s) fs 1 ds 0 1) (p .long) (p .settled)
+          (odd-is n h s x mirrors xs at stride ss ds (p .left) b shift fs ts t e some));
+      long = omega (arith, p .long, ap length u, length-stores o h (place s (2 * s)) (rounded shift h ts s (2 * s) fs 1 ds 0 1));
     }
 
-zeroth : (n shift : ℕ) {x : ℕ → ℤ} {xs : List ℤ} {at stride : ℕ} {ts : List ℤ} → 0 < n → IsKernel n ts
-    → Folded n n 1 x xs at stride → rounded shift 1 ts 0 1 n 1 xs at stride 0 ≡ roundShift shift (dctSum n 0 x)
+zeroth : (n shift fs : ℕ) {x : ℕ → ℤ} {xs : List ℤ} {at stride : ℕ} {ts : List ℤ} → 0 < n → IsKernel n fs ts
+    → Folded n n 1 x xs at stride → rounded shift 1 ts 0 1 fs 1 xs at stride 0 ≡ roundShift shift (dctSum n 0 x)
 unfolding rowSum dctSum
-zeroth n shift {x} {xs} {at} {stride} {ts} some t f =
+zeroth n shift fs {x} {xs} {at} {stride} {ts} some t f =
     roundShift-cong shift
     (cong-trans (sum-cong 1 _ (λ k. dct 1 0 k *ℤ f .y k) (λ k l. cong-mul (cong-eq (factor k l)) (f .held k l)))
     (cong-eq (sym (whole (f .rows 0 (omega arith))))))
   where
-    factor : (k : ℕ) → k < 1 → getD ts (place 0 1 0 * n + k * 1) (pos 0) ≡ dct 1 0 k
+    factor : (k : ℕ) → k < 1 → getD ts (place 0 1 0 * fs + k * 1) (pos 0) ≡ dct 1 0 k
     factor k l =
-        ap (λ (j : ℕ). getD ts (0 * n + j) (pos 0)) (mul-one k) ∙ t .entry 0 k some (omega arith)
+        ap (λ (j : ℕ). getD ts (0 * fs + j) (pos 0)) (mul-one k) ∙ t .entry 0 k some (omega arith)
         ∙ ap₂ (λ (a c : ℕ). dct a c k) (sym (one-mul n)) (sym (zero-mul n)) ∙ dct-scale 1 n 0 k some
 
     whole : dctSum n (0 * n) x ≡ dctSum 1 0 (f .y) → dctSum n 0 x ≡ sumTo 1 (λ k. dct 1 0 k *ℤ f .y k)
@@ -204,10 +219,10 @@ pub record Finished (n shift : ℕ) (x : ℕ → ℤ) (o : List ℤ) : Type 0 wh
   pub at : (f : ℕ) → f < n → getD o f (pos 0) ≡ roundShift shift (dctSum n f x)
 
 -- the number that remains is frequency 0's
-pub finish : (n : ℕ) {shift : ℕ} {x : ℕ → ℤ} {xs : List ℤ} {at stride : ℕ} {o o' ts : List ℤ} → 0 < n → IsKernel n ts
-    → Partly n n 1 shift x xs at stride o → o' ≡ stores o 1 (place 0 1) (rounded shift 1 ts 0 1 n 1 xs at stride)
+pub finish : (n : ℕ) {shift fs : ℕ} {x : ℕ → ℤ} {xs : List ℤ} {at stride : ℕ} {o o' ts : List ℤ} → 0 < n → IsKernel n fs ts
+    → Partly n n 1 shift x xs at stride o → o' ≡ stores o 1 (place 0 1) (rounded shift 1 ts 0 1 fs 1 xs at stride)
     → Finished n shift x o'
-finish n {shift} {x} {xs} {at} {stride} {o} {o'} {ts} some t p u = record { at = settle }
+finish n {shift} {fs} {x} {xs} {at} {stride} {o} {o'} {ts} some t p u = record { at = settle }
   where
     here : (f : ℕ) → 0 * n + suc f ≡ suc f
     here f = omega (arith, zero-mul n)
@@ -215,9 +230,9 @@ finish n {shift} {x} {xs} {at} {stride} {o} {o'} {ts} some t p u = record { at =
     settle : (f : ℕ) → f < n → getD o' f (pos 0) ≡ roundShift shift (dctSum n f x)
     settle zero l =
         ap (λ (a : List ℤ). getD a 0 (pos 0)) u
-        ∙ stores-in o 1 (place 0 1) (rounded shift 1 ts 0 1 n 1 xs at stride) 0 (pos 0) (omega arith) (omega (arith, p .long)) (λ i b e. omega arith)
-        ∙ zeroth n shift some t (p .left)
+        ∙ stores-in o 1 (place 0 1) (rounded shift 1 ts 0 1 fs 1 xs at stride) 0 (pos 0) (omega arith) (omega (arith, p .long)) (λ i b e. omega arith)
+        ∙ zeroth n shift fs some t (p .left)
     settle (suc f) l =
         ap (λ (a : List ℤ). getD a (suc f) (pos 0)) u
-        ∙ stores-out o 1 (place 0 1) (rounded shift 1 ts 0 1 n 1 xs at stride) (suc f) (pos 0) (λ k b e. omega arith)
+        ∙ stores-out o 1 (place 0 1) (rounded shift 1 ts 0 1 fs 1 xs at stride) (suc f) (pos 0) (λ k b e. omega arith)
         ∙ subst (λ (i : ℕ). getD o i (pos 0) ≡ roundShift shift (dctSum n i x)) (here f) (p .settled .at 0 (suc f) (omega arith) l (omega (arith, zero-mul n)))

@@ -37,6 +37,10 @@ pub record Butterfly (h : ℕ) (xs : List ℤ) (at stride : ℕ) (ss ds : List �
   pub sums : (k : ℕ) → k < h → getD ss k (pos 0) ≡ sumOf xs at stride h k
   pub diffs : (k : ℕ) → k < h → getD ds k (pos 0) ≡ diffOf xs at stride h k
 
+-- what `gather` leaves: the line's n numbers in xs
+pub record Gathered (n : ℕ) (src : List ℤ) (at stride : ℕ) (xs : List ℤ) : Type 0 where
+  pub numbers : (k : ℕ) → k < n → getD xs k (pos 0) ≡ lineAt src at stride k
+
 -- the places from at on, and the numbers of a list
 abbrev pub from : ℕ → ℕ → ℕ
 from at f = at + f

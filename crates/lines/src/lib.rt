@@ -4,7 +4,9 @@ ghost use Prim.Native.Nat.{ℕ, _+_, _*_, _<_, _≤_};
 ghost use lib.ListN.{length};
 ghost use Rattle.laws.specs.Integer.{wrap32};
 ghost use Rattle.laws.specs.Store.{stores};
-ghost use Rattle.lines.specs.Line.{rowSum, place, rounded, InReach, Butterfly, from, number};
+ghost use Rattle.lines.specs.Pass.{passAt};
+ghost use Rattle.lines.specs.Room.{LineRoom, Reading, onLine};
+ghost use Rattle.lines.specs.Line.{rowSum, place, rounded, InReach, Butterfly, Gathered, from, number};
 
 // The sum of n products: the numbers of a table from row on, apart places apart, with those of a line that
 // begins at at and has a number every stride places.
@@ -75,20 +77,20 @@ pub fn fold(h: usize, x: &[i32], at: usize, stride: usize, s: &mut [i32], d: &mu
     }
 }
 
-// The odd frequencies of a stage: of 2h numbers at every step-th frequency of side n = 2h × step, from their differences d.
-pub fn odds(n: usize, h: usize, step: usize, t: &[i8], d: &[i32], o: &mut [i32], shift: u32)
-    requires { ⌜ (step ≤ 16) × (1 ≤ shift) × (shift ≤ 15) × InReach h step (2 * step) h n 1 0 1 (length (now t)) (length (now d)) (length (now o)) ⌝ }
-    ensures { λ _. ⌜ now (o .exit) ≡ stores (now (o .entry)) h (place step (2 * step)) (rounded shift h (now (t .entry)) step (2 * step) n 1 (now (d .entry)) 0 1) ⌝ }
+// The odd frequencies of a stage: of 2h numbers at every step-th frequency of a side, from their differences d.
+pub fn odds(fs: usize, h: usize, step: usize, t: &[i8], d: &[i32], o: &mut [i32], shift: u32)
+    requires { ⌜ (step ≤ 16) × (1 ≤ shift) × (shift ≤ 15) × InReach h step (2 * step) h fs 1 0 1 (length (now t)) (length (now d)) (length (now o)) ⌝ }
+    ensures { λ _. ⌜ now (o .exit) ≡ stores (now (o .entry)) h (place step (2 * step)) (rounded shift h (now (t .entry)) step (2 * step) fs 1 (now (d .entry)) 0 1) ⌝ }
 {
-    frequencies(h, step, 2 * step, h, t, n, 1, d, 0, 1, o, shift);
+    frequencies(h, step, 2 * step, h, t, fs, 1, d, 0, 1, o, shift);
 }
 
-// Frequency 0 of side n, from the sum s of the whole line.
-pub fn zeroth(n: usize, t: &[i8], s: &[i32], o: &mut [i32], shift: u32)
+// Frequency 0, from the sum s of the whole line.
+pub fn zeroth(fs: usize, t: &[i8], s: &[i32], o: &mut [i32], shift: u32)
     requires { ⌜ (1 ≤ shift) × (shift ≤ 15) × (0 < length (now t)) × (0 < length (now s)) × (0 < length (now o)) ⌝ }
-    ensures { λ _. ⌜ now (o .exit) ≡ stores (now (o .entry)) 1 (place 0 1) (rounded shift 1 (now (t .entry)) 0 1 n 1 (now (s .entry)) 0 1) ⌝ }
+    ensures { λ _. ⌜ now (o .exit) ≡ stores (now (o .entry)) 1 (place 0 1) (rounded shift 1 (now (t .entry)) 0 1 fs 1 (now (s .entry)) 0 1) ⌝ }
 {
-    frequencies(1, 0, 1, 1, t, n, 1, s, 0, 1, o, shift);
+    frequencies(1, 0, 1, 1, t, fs, 1, s, 0, 1, o, shift);
 }
 
 // The n numbers of a line, into dst from at on.
@@ -100,5 +102,37 @@ pub fn put(n: usize, o: &[i32], dst: &mut [i32], at: usize)
     while f < n {
         dst[at + f] = o[f];
         f += 1;
+    }
+}
+
+// Line j of a transform of side n by dense sums: its table has frequency f, sample k at place f × fs + k × ks.
+pub fn dense_line(
+    n: usize,
+    t: &[i8],
+    fs: usize,
+    ks: usize,
+    line: usize,
+    j: usize,
+    src: &[i32],
+    dst: &mut [i32],
+    shift: u32,
+)
+    requires { ⌜ LineRoom n line j shift (length (now src)) (length (now dst)) × Reading n fs ks (now t) ⌝ }
+    ensures { λ _. ⌜ now (dst .exit) ≡ stores (now (dst .entry)) n (onLine n j) (passAt 1 n shift line (now (src .entry)) j) ⌝ }
+{
+    let mut o = [0i32; 16];
+    frequencies(n, 0, 1, n, t, fs, ks, src, j, line, &mut o, shift);
+    put(n, &o, dst, j * n);
+}
+
+// The n numbers of a line that begins at at and has a number every stride places, into x.
+pub fn gather(n: usize, src: &[i32], at: usize, stride: usize, x: &mut [i32])
+    requires { ⌜ (at < stride) × (n * stride ≤ length (now src)) × (n ≤ length (now x)) ⌝ }
+    ensures { λ _. ⌜ Gathered n (now (src .entry)) at stride (now (x .exit)) ⌝ }
+{
+    let mut k: usize = 0;
+    while k < n {
+        x[k] = src[k * stride + at];
+        k += 1;
     }
 }

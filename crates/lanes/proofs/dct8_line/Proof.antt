@@ -10,7 +10,7 @@ use Rattle.kernels.proofs.Mirror.{mirror}
 use Rattle.lines.proofs.Reach.{odds-reach}
 use Rattle.lines.proofs.Stage.{begin, stage, finish}
 use Rattle.lanes.proofs.Kernel.{lent-rows}
-use Rattle.lanes.proofs.Line.{dct-line}
+use Rattle.lines.proofs.Line.{dct-line}
 use Rattle.lanes.proofs.dct8_line.Statement.{statement}
 use Rattle.lanes.proofs.dct8_line.Tie as tie
 
@@ -37,7 +37,7 @@ odds-requires c κs =
     let r = c .before .before .before .before .before .before .before .before .pre .0 .room in
     let o = lit≤ tt in
     let d = subst (λ (k : ℕ). 4 ≤ k) (sym (c .before .before .before .before .before .fold .kept .1 .1 .1 .1 .1 .0)) (lit≤ tt) in
-    (lit≤ tt, r .low, r .high, odds-reach 8 4 1 refl (lit< tt) (lit< tt) (lent-rows 8 (lit< tt) (lit≤ tt) (c .before .before .before .before .before .before .before .before .pre .1) .long) d o)
+    (lit≤ tt, r .low, r .high, odds-reach 8 4 1 refl (lit< tt) (lit< tt) (lent-rows 8 (lit< tt) (lit≤ tt) (c .before .before .before .before .before .before .before .before .pre .1)) d o)
 
 slice-aggregate-fold-3 : tie.Need-slice-aggregate-fold-3
 slice-aggregate-fold-3 c = search needs
@@ -62,7 +62,7 @@ odds-requires-2 c κs =
     let r = c .before .before .before .before .before .before .before .before .before .before .before .before .before .before .before .before .before .before .before .pre .0 .room in
     let o = subst (λ (k : ℕ). 8 ≤ k) (sym (c .before .before .before .before .before .before .before .before .before .before .odds .kept .1 .1 .1 .1 .1 .0)) (lit≤ tt) in
     let d = subst (λ (k : ℕ). 2 ≤ k) (sym (c .before .before .before .before .before .fold2 .kept .1 .1 .1 .1 .1 .0)) (lit≤ tt) in
-    (lit≤ tt, r .low, r .high, odds-reach 8 2 2 refl (lit< tt) (lit< tt) (lent-rows 8 (lit< tt) (lit≤ tt) (c .before .before .before .before .before .before .before .before .before .before .before .before .before .before .before .before .before .before .before .pre .1) .long) d o)
+    (lit≤ tt, r .low, r .high, odds-reach 8 2 2 refl (lit< tt) (lit< tt) (lent-rows 8 (lit< tt) (lit≤ tt) (c .before .before .before .before .before .before .before .before .before .before .before .before .before .before .before .before .before .before .before .pre .1)) d o)
 
 slice-aggregate-fold-6 : tie.Need-slice-aggregate-fold-6
 slice-aggregate-fold-6 c = search needs
@@ -87,7 +87,7 @@ odds-requires-3 c κs =
     let r = c .before .before .before .before .before .before .before .before .before .before .before .before .before .before .before .before .before .before .before .before .before .before .before .before .before .before .before .before .before .before .pre .0 .room in
     let o = subst (λ (k : ℕ). 8 ≤ k) (sym (c .before .before .before .before .before .before .before .before .before .before .odds2 .kept .1 .1 .1 .1 .1 .0 ∙ c .before .before .before .before .before .before .before .before .before .before .before .before .before .before .before .before .before .before .before .before .before .odds .kept .1 .1 .1 .1 .1 .0)) (lit≤ tt) in
     let d = subst (λ (k : ℕ). 1 ≤ k) (sym (c .before .before .before .before .before .fold3 .kept .1 .1 .1 .1 .1 .0)) (lit≤ tt) in
-    (lit≤ tt, r .low, r .high, odds-reach 8 1 4 refl (lit< tt) (lit< tt) (lent-rows 8 (lit< tt) (lit≤ tt) (c .before .before .before .before .before .before .before .before .before .before .before .before .before .before .before .before .before .before .before .before .before .before .before .before .before .before .before .before .before .before .pre .1) .long) d o)
+    (lit≤ tt, r .low, r .high, odds-reach 8 1 4 refl (lit< tt) (lit< tt) (lent-rows 8 (lit< tt) (lit≤ tt) (c .before .before .before .before .before .before .before .before .before .before .before .before .before .before .before .before .before .before .before .before .before .before .before .before .before .before .before .before .before .before .pre .1)) d o)
 
 slice-aggregate-zeroth : tie.Need-slice-aggregate-zeroth
 slice-aggregate-zeroth c = search needs
@@ -98,7 +98,7 @@ slice-aggregate-zeroth-2 c = search needs
 zeroth-requires : tie.Need-zeroth-requires
 zeroth-requires c κs =
     let r = c .before .before .before .before .before .before .before .before .before .before .before .before .before .before .before .before .before .before .before .before .before .before .before .before .before .before .before .before .before .before .before .before .before .before .before .pre .0 .room in
-    let t = lent-rows 8 (lit< tt) (lit≤ tt) (c .before .before .before .before .before .before .before .before .before .before .before .before .before .before .before .before .before .before .before .before .before .before .before .before .before .before .before .before .before .before .before .before .before .before .before .pre .1) .long in
+    let t = lent-rows 8 (lit< tt) (lit≤ tt) (c .before .before .before .before .before .before .before .before .before .before .before .before .before .before .before .before .before .before .before .before .before .before .before .before .before .before .before .before .before .before .before .before .before .before .before .pre .1) .inside 0 0 (lit< tt) (lit< tt) in
     let o = subst (λ (k : ℕ). 8 ≤ k) (sym (c .before .before .before .before .odds3 .kept .1 .1 .1 .1 .1 .0 ∙ c .before .before .before .before .before .before .before .before .before .before .before .before .before .before .before .odds2 .kept .1 .1 .1 .1 .1 .0 ∙ c .before .before .before .before .before .before .before .before .before .before .before .before .before .before .before .before .before .before .before .before .before .before .before .before .before .before .odds .kept .1 .1 .1 .1 .1 .0)) (lit≤ tt) in
     let s = subst (λ (k : ℕ). 1 ≤ k) (sym (c .before .before .before .before .before .before .before .before .before .before .fold3 .kept .1 .1 .1 .1 .0)) (lit≤ tt) in
     (r .low, r .high, omega arith, s, omega arith)
@@ -120,7 +120,7 @@ same-length c = search needs
 returns : tie.Need-returns
 returns c =
     let a = c .before .before .before .before .before .before .before .before .before .before .before .before .before .before .before .before .before .before .before .before .before .before .before .before .before .before .before .before .before .before .before .before .before .before .before .before .before .before .before .before .before .args in
-    let k = lent-rows 8 (lit< tt) (lit≤ tt) (c .before .before .before .before .before .before .before .before .before .before .before .before .before .before .before .before .before .before .before .before .before .before .before .before .before .before .before .before .before .before .before .before .before .before .before .before .before .before .before .before .before .pre .1) .kernel in
+    let k = lent-rows 8 (lit< tt) (lit≤ tt) (c .before .before .before .before .before .before .before .before .before .before .before .before .before .before .before .before .before .before .before .before .before .before .before .before .before .before .before .before .before .before .before .before .before .before .before .before .before .before .before .before .before .pre .1) in
     let p0 = begin 8 (a .shift) (a .src .now) (a .j) (a .line) zeros (lit≤ tt) in
     let p1 = stage 8 4 1 refl (lit< tt) (mirror 2 (lit< tt)) k p0 (c .before .before .before .before .before .before .before .before .before .before .before .before .before .before .before .before .before .before .before .before .before .before .before .before .before .before .before .before .before .before .before .before .before .before .before .before .before .before .fold .ensures) (c .before .before .before .before .before .before .before .before .before .before .before .before .before .before .before .before .before .before .before .before .before .before .before .before .before .before .before .before .before .before .before .before .odds .ensures) in
     let p2 = stage 8 2 2 refl (lit< tt) (mirror 1 (lit< tt)) k p1 (c .before .before .before .before .before .before .before .before .before .before .before .before .before .before .before .before .before .before .before .before .before .before .before .before .before .before .before .fold2 .ensures) (c .before .before .before .before .before .before .before .before .before .before .before .before .before .before .before .before .before .before .before .before .before .odds2 .ensures) in

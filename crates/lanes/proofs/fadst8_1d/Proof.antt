@@ -3,8 +3,8 @@ use Prim.Native.Nat.{_-_, _≤_}
 use native.Mathlib.Omega.{arith}
 use borrow.Author.Needs.{needs}
 use lib.Dec.{lit<, lit≤}
-use Rattle.lanes.proofs.Kernel.{reading8}
-use Rattle.lanes.proofs.Loop.{Written, none-yet, one-more, same-long, next-line, all-lines}
+use Rattle.lines.proofs.Reading.{reading8}
+use Rattle.lines.proofs.Loop.{Written, none-yet, one-more, same-long, next-line, all-lines}
 use Rattle.lanes.proofs.fadst8_1d.Statement.{statement}
 use Rattle.lanes.proofs.fadst8_1d.Tie as tie
 
@@ -20,14 +20,14 @@ adst8-requires c κs = search needs
 loop-holds : tie.Need-loop-holds Inv-loop μ-loop
 loop-holds c = (none-yet, omega arith)
 
-slice-aggregate-adst-line : tie.Need-slice-aggregate-adst-line Inv-loop μ-loop
-slice-aggregate-adst-line c = search needs
+slice-aggregate-dense-line : tie.Need-slice-aggregate-dense-line Inv-loop μ-loop
+slice-aggregate-dense-line c = search needs
 
-add-adst-line : tie.Need-add-adst-line Inv-loop μ-loop
-add-adst-line c = let r = c .before .before .before .before .pre in omega arith
+add-dense-line : tie.Need-add-dense-line Inv-loop μ-loop
+add-dense-line c = let r = c .before .before .before .before .pre in omega arith
 
-adst-line-requires : tie.Need-adst-line-requires Inv-loop μ-loop
-adst-line-requires c κs =
+dense-line-requires : tie.Need-dense-line-requires Inv-loop μ-loop
+dense-line-requires c κs =
     let l = c .before .before .before .loop in
     (next-line (lit< tt) (lit≤ tt) (c .before .before .before .before .before .pre) (c .before .before .loop-test .taken) (l .inv .0), reading8 (c .before .before .before .before .adst8 .ensures))
 
@@ -38,7 +38,7 @@ loop-less : tie.Need-loop-less Inv-loop μ-loop
 loop-less c = omega arith
 
 loop-again : tie.Need-loop-again Inv-loop μ-loop
-loop-again c = (one-more (c .before .before .before .before .before .loop .inv .0) (c .before .adst-line .ensures), omega arith)
+loop-again c = (one-more (c .before .before .before .before .before .loop .inv .0) (c .before .dense-line .ensures), omega arith)
 
 same-length : tie.Need-same-length Inv-loop μ-loop
 same-length c = same-long (c .before .loop .inv .0)
@@ -54,9 +54,9 @@ fadst8-1d-spec =
     μ-loop
     adst8-requires
     loop-holds
-    slice-aggregate-adst-line
-    add-adst-line
-    adst-line-requires
+    slice-aggregate-dense-line
+    add-dense-line
+    dense-line-requires
     add-i
     loop-less
     loop-again

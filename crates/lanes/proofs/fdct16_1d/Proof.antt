@@ -3,7 +3,7 @@ use Prim.Native.Nat.{_-_, _≤_}
 use native.Mathlib.Omega.{arith}
 use borrow.Author.Needs.{needs}
 use lib.Dec.{lit<, lit≤}
-use Rattle.lanes.proofs.Loop.{Written, none-yet, one-more, same-long, next-line, all-lines}
+use Rattle.lines.proofs.Loop.{Written, none-yet, one-more, same-long, next-line, all-lines}
 use Rattle.lanes.proofs.fdct16_1d.Statement.{statement}
 use Rattle.lanes.proofs.fdct16_1d.Tie as tie
 

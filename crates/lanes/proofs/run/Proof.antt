@@ -1,7 +1,7 @@
 -- `lanes::run` meets its contract: each arm by the tests that led there. Assumes nothing.
 use mathlib.Core.Path.{_≡_}
 use borrow.Author.Needs.{needs}
-use Rattle.lanes.proofs.Arm.{side-32, Adst, is-adst, side-16, asked, given}
+use Rattle.lines.proofs.Arm.{side-32, Adst, is-adst, side-16, asked, given}
 use Rattle.lanes.proofs.run.Statement.{statement}
 use Rattle.lanes.proofs.run.Tie as tie
 

@@ -6,7 +6,7 @@ use Rattle.lines.proofs.zeroth.Tie as tie
 
 frequencies-requires : tie.Need-frequencies-requires
 frequencies-requires c κs =
-    let p = c .before .pre in (p .0, p .1, zeroth-reach (c .before .args .n) (p .2) (p .3) (p .4))
+    let p = c .before .pre in (p .0, p .1, zeroth-reach (c .before .args .fs) (p .2) (p .3) (p .4))
 
 same-length : tie.Need-same-length
 same-length c = search needs

@@ -19,7 +19,7 @@ same-length-2 : tie.Need-same-length-2
 same-length-2 c = search needs
 
 returns : tie.Need-returns
-returns c = 
+returns c =
     let e = c .before .before .before .block .ensures in
     (search needs ∙ signed-given (e .0) (c .signed .ensures), e .1)
 

@@ -18,7 +18,7 @@ same-length : tie.Need-same-length
 same-length c = search needs
 
 returns : tie.Need-returns
-returns c = 
+returns c =
     let e = c .before .before .fwht4x4 .ensures in
     (search needs ∙ signed-given (e .0) (c .signed .ensures), e .1)
 

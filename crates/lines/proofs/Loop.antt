@@ -1,16 +1,16 @@
--- A loop over the lines of a lane pass, at any side and of any kind. Assumes nothing.
-use mathlib.Core.Path.{_≡_, refl, sym, ap, _∙_}
+-- A loop over the lines of a pass, at any side and of any kind. Assumes nothing.
+use mathlib.Core.Path.{_≡_, sym, ap, _∙_, subst}
 use mathlib.Core.List.{List}
 use Prim.Native.Nat.{ℕ, _+_, _*_, _≤_, _<_}
-use native.Mathlib.Nat.{mul-le-mul-right, add-mul, mul-comm, add-assoc}
+use native.Mathlib.Nat.{mul-le-mul-right, add-mul, mul-comm, zero-add}
 use native.Mathlib.Omega.{arith}
 use lib.IntN.{ℤ, pos}
 use Rattle.laws.specs.Store.{stores, grid, laid}
 use Rattle.laws.proofs.Store.{Lined, lined-none, lined-turn, lined-all, lined-length}
 use Rattle.laws.proofs.Laid.{grid-laid}
 use lib.ListN.{length}
 use Rattle.lines.specs.Pass.{passAt, passLines}
-use Rattle.lanes.specs.Room.{Room, LineRoom, onLine}
+use Rattle.lines.specs.Room.{Room, LineRoom, onLine}
 
 -- the i-th line from start on: its places and its numbers
 abbrev pub places : ℕ → ℕ → ℕ → ℕ → ℕ
@@ -62,3 +62,11 @@ module _ {kind n shift line : ℕ} {src : List ℤ} {start : ℕ} where
 
       lies : (j f : ℕ) → (start + j) * n + f ≡ start * n + (j * n + f)
       lies j f = omega (arith, add-mul start j n)
+
+-- lines from 0 on
+pub line-0 : {n line j shift ls ld : ℕ} → LineRoom n line (0 + j) shift ls ld → LineRoom n line j shift ls ld
+line-0 {n} {line} {j} {shift} {ls} {ld} r = subst (λ (i : ℕ). LineRoom n line i shift ls ld) (zero-add j) r
+
+pub stored-0 : (kind n shift line : ℕ) (src dst : List ℤ) (j : ℕ) {d : List ℤ} → d ≡ stores dst n (onLine n j) (passAt kind n shift line src j)
+    → d ≡ stores dst n (onLine n (0 + j)) (passAt kind n shift line src (0 + j))
+stored-0 kind n shift line src dst j e = e ∙ ap (λ (i : ℕ). stores dst n (onLine n i) (passAt kind n shift line src i)) (sym (zero-add j))

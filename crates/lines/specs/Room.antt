@@ -1,4 +1,4 @@
--- What the lane passes ask of their arguments.
+-- What the lines of a pass ask of their arguments.
 use mathlib.Core.Path.{_≡_}
 use mathlib.Core.List.{List}
 use Prim.Native.Nat.{ℕ, _+_, _*_, _≤_, _<_}

@@ -12,10 +12,10 @@ use Rattle.laws.proofs.Store.{stores-in, stores-ext}
 use Rattle.laws.proofs.Sum.{sum-same}
 use Rattle.fixed.specs.Fixed.{roundShift}
 use Rattle.kernels.specs.Kernel.{kernel}
 use Rattle.lines.specs.Line.{lineAt, rowSum, place, rounded, InReach, from, number}
 use Rattle.lines.specs.Pass.{passSum, passAt}
 use Rattle.lines.proofs.Stage.{dctSum, Finished}
-use Rattle.lanes.specs.Room.{LineRoom, Reading, onLine}
+use Rattle.lines.specs.Room.{LineRoom, Reading, onLine}
 
 -- the frequencies from 0 on, one after another
 plain : (f : ℕ) → place 0 1 f ≡ f

@@ -1,4 +1,4 @@
--- Which side and kind an arm of `run` is for. Assumes nothing.
+-- Which side and kind an arm of a pass's dispatch is for. Assumes nothing.
 use mathlib.Core.Path.{_≡_, refl, sym, ap₂, _∙_, subst}
 use mathlib.Core.Logic.{⊎-elim}
 use mathlib.Core.Bool.{Bool, true, false, _&&_, not, false≢true}
@@ -11,8 +11,8 @@ use Rattle.laws.proofs.Bool.{both, either}
 use Rattle.sizes.specs.Size.{isSide}
 use Rattle.sizes.proofs.Side.{side-cases}
 use Rattle.kernels.specs.Kernel.{hasKernel}
 use Rattle.lines.specs.Pass.{passLines}
-use Rattle.lanes.specs.Room.{Room}
+use Rattle.lines.specs.Room.{Room}
 
 -- the last arm of a DCT
 pub side-32 : (n : ℕ) → isSide n ≡ true → (n ≡ 4 → ⊥) → (n ≡ 8 → ⊥) → (n ≡ 16 → ⊥) → n ≡ 32

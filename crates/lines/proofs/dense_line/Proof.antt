@@ -1,4 +1,4 @@
--- `lanes::adst_line` meets its contract. Assumes nothing.
+-- `lines::dense_line` meets its contract. Assumes nothing.
 use mathlib.Core.Path.{_≡_, sym, _∙_, subst}
 use mathlib.Core.List.{List, [], _∷_}
 use Prim.Native.Nat.{ℕ, _+_, _*_, _≤_}
@@ -7,10 +7,10 @@ use native.Mathlib.Omega.{arith}
 use borrow.Author.Needs.{needs}
 use lib.Dec.{lit≤}
 use lib.IntN.{ℤ, pos}
-use Rattle.lanes.specs.Room.{LineRoom}
-use Rattle.lanes.proofs.Line.{line-ends, dense-reach, adst-line}
-use Rattle.lanes.proofs.adst_line.Statement.{statement}
-use Rattle.lanes.proofs.adst_line.Tie as tie
+use Rattle.lines.specs.Room.{LineRoom}
+use Rattle.lines.proofs.Line.{line-ends, dense-reach, adst-line}
+use Rattle.lines.proofs.dense_line.Statement.{statement}
+use Rattle.lines.proofs.dense_line.Tie as tie
 
 abbrev zeros : List ℤ
 zeros = pos 0 ∷ pos 0 ∷ pos 0 ∷ pos 0 ∷ pos 0 ∷ pos 0 ∷ pos 0 ∷ pos 0 ∷ pos 0 ∷ pos 0 ∷ pos 0 ∷ pos 0 ∷ pos 0 ∷ pos 0 ∷ pos 0 ∷ pos 0 ∷ []
@@ -45,8 +45,8 @@ returns c =
     let p = c .before .before .before .before .before .before .before .pre in
     adst-line (a .n) (a .line) (a .j) (a .shift) (a .src .now) (p .1) zeros (a .dst .now) (p .1 .small) (c .before .before .before .before .before .frequencies .ensures) (c .before .put .ensures)
 
-pub adst-line-spec : {M : Type 1} → statement M
-adst-line-spec =
+pub dense-line-spec : {M : Type 1} → statement M
+dense-line-spec =
     tie.close
     (tie.spec
     slice-aggregate-frequencies
