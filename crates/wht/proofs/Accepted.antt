@@ -1,0 +1,37 @@
+-- What an accepted call knows of its arguments. Assumes nothing.
+use mathlib.Core.Path.{_≡_, refl}
+use mathlib.Core.Bool.{Bool, true, false, not, _||_, true≢false}
+use mathlib.Core.List.{List}
+use Prim.Native.Nat.{ℕ, _≤_}
+use borrow.Author.Tests.{ltb-false, not-false}
+use lib.Dec.{ltb}
+use lib.IntN.{ℤ}
+use lib.ListN.{length}
+use Rattle.answer.specs.Answer.{answers}
+use Rattle.answer.proofs.Answer.{passed}
+use Rattle.residual.specs.Residual.{residualsOk}
+use Rattle.wht.specs.Wht.{whtAnswer}
+
+pub or-left : (a b : Bool) → (a || b) ≡ false → a ≡ false
+or-left true b e = e
+or-left false b e = refl
+
+pub or-right : (a b : Bool) → (a || b) ≡ false → b ≡ false
+or-right true b e = absurd (true≢false e)
+or-right false b e = e
+
+pub record Accepted (residuals : List ℤ) (room : ℕ) : Type 0 where
+  pub read : 16 ≤ length residuals
+  pub written : 16 ≤ room
+  pub limit : residualsOk 16 residuals ≡ true
+
+pub accepted : (residuals : List ℤ) (room n : ℕ) → answers n ≡ whtAnswer residuals room → Accepted residuals room
+unfolding whtAnswer
+accepted residuals room n e =
+    let short = passed (ltb (length residuals) 16 || ltb room 16) 3 _ 16 n e in
+    let range = passed (not (residualsOk 16 residuals)) 4 _ 16 n (short .1) in
+    record {
+      read = ltb-false _ _ (or-left _ _ (short .0));
+      written = ltb-false _ _ (or-right (ltb (length residuals) 16) _ (short .0));
+      limit = not-false _ (range .0);
+    }

@@ -1,0 +1,5 @@
+pub mod Accepted
+pub mod Examples
+pub mod Number
+pub mod Size
+pub mod Turned

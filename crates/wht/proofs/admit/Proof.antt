@@ -1,0 +1,30 @@
+-- `wht::admit` meets its contract: each return by the tests that led there. Assumes nothing.
+use mathlib.Core.Path.{sym, ap, _∙_}
+use mathlib.Core.Bool.{not}
+use native.Mathlib.Omega.{arith}
+use borrow.Author.Tests.{ltb-false}
+use lib.ListN.{length}
+use Rattle.answer.specs.Answer.{lowest}
+use Rattle.wht.specs.Wht.{whtAnswer}
+use Rattle.wht.proofs.Accepted.{or-left}
+use Rattle.wht.proofs.admit.Statement.{statement}
+use Rattle.wht.proofs.admit.Tie as tie
+
+returns : tie.Need-returns
+unfolding whtAnswer lowest
+returns c = rw (c .if1 .taken)
+
+residuals-ok-requires : tie.Need-residuals-ok-requires
+residuals-ok-requires c κs =
+    let l = c .before .args .residuals .now in omega (arith, ltb-false (length l) 16 (or-left _ _ (c .if1 .left)))
+
+returns-2 : tie.Need-returns-2
+unfolding whtAnswer lowest
+returns-2 c = rw (c .before .before .if1 .left, ap not (sym (c .before .residuals-ok .ensures)) ∙ c .if2 .taken)
+
+returns-3 : tie.Need-returns-3
+unfolding whtAnswer lowest
+returns-3 c = rw (c .before .before .if1 .left, ap not (sym (c .before .residuals-ok .ensures)) ∙ c .if2 .left)
+
+pub admit-spec : {M : Type 1} → statement M
+admit-spec = tie.close (tie.spec returns residuals-ok-requires returns-2 returns-3)
