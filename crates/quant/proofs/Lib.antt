@@ -1,0 +1,10 @@
+pub mod Compare
+pub mod Cut
+pub mod Finite
+pub mod Pattern
+pub mod Ranges
+pub mod Rounding
+pub mod Shifted
+pub mod Small
+pub mod Written
+pub mod Zero
