@@ -1,9 +1,12 @@
 pub mod Compare
 pub mod Cut
 pub mod Finite
+pub mod Front
 pub mod Pattern
 pub mod Ranges
+pub mod Reading
 pub mod Rounding
+pub mod Scanned
 pub mod Shifted
 pub mod Small
 pub mod Written

@@ -1,6 +1,6 @@
 -- The levels and magnitudes of a scan ("Levels", numbers 1, 3, 7, 8, 9).
 use mathlib.Core.Bool.{Bool, cond, not, _&&_, _||_}
-use mathlib.Core.List.{List, [], _∷_}
+use mathlib.Core.List.{List, [], _∷_, _++_}
 use Prim.Native.Nat.{ℕ, _+_, _*_, _/_, _%_}
 use lib.Dec.{ltb, eqb}
 use lib.IntN.{ℤ, pos}
@@ -37,18 +37,19 @@ isLost width room scan = ltb 1024 (length scan) || not (every (length scan) (λ 
 unfoldable pub isDense : ℕ → List ℤ → List ℕ → Bool
 isDense width coefficients scan = not (every (length scan) (λ i. coefficientOk (namedAt width coefficients scan i)))
 
--- the lengths of the two buffers are levels and magnitudes. "answers the scan length; an empty scan answers 0"
+-- numbers 1, 3 and 7, with a scan of n entries and buffers of the lengths levels and magnitudes
+abbrev pub byCard : ℕ → ℕ → Settings → ℕ → ℕ → ℕ → List (Bool × ℕ)
+byCard width step settings n levels magnitudes =
+    (not (isSide width), 1) ∷ (ltb levels n || ltb magnitudes n, 3) ∷ (not (settingsOk settings step), 7) ∷ []
+
+-- numbers 8 and 9
+abbrev pub byScan : ℕ → List ℤ → List ℕ → List (Bool × ℕ)
+byScan width coefficients scan = (isLost width (length coefficients) scan, 8) ∷ (isDense width coefficients scan, 9) ∷ []
+
+-- "answers the scan length; an empty scan answers 0"
 unfoldable pub scanAnswer : ℕ → ℕ → Settings → List ℤ → List ℕ → ℕ → ℕ → Answer
 scanAnswer width step settings coefficients scan levels magnitudes =
-    let n = length scan in
-    lowest
-    ((not (isSide width), 1)
-    ∷ (ltb levels n || ltb magnitudes n, 3)
-    ∷ (not (settingsOk settings step), 7)
-    ∷ (isLost width (length coefficients) scan, 8)
-    ∷ (isDense width coefficients scan, 9)
-    ∷ [])
-    n
+    lowest (byCard width step settings (length scan) levels magnitudes ++ byScan width coefficients scan) (length scan)
 
 -- "one level and one magnitude per scan entry": a buffer after an accepted call, by what is written for a coefficient
 unfoldable pub scanned : (ℤ → Float) → ℕ → List ℤ → List ℕ → List Float → List Float

@@ -3,9 +3,11 @@ use answer::Refusal;
 
 mod float;
 mod level;
+mod scan;
 mod step;
 
 pub use level::quantize_one;
+pub use scan::quantize_to_levels;
 pub use step::qstep;
 
 // The quantizer's settings. The integer step goes beside them.

@@ -10,9 +10,6 @@ use Rattle.quant.proofs.Rounding.{plain-no-nan, below-half, stays}
 use Rattle.quant.proofs.Cut.{Raised, raised, Cutting, cutting}
 use Rattle.quant.proofs.float.round_half_up.Statement.{statement}
 use Rattle.quant.proofs.float.round_half_up.Tie as tie
-use Rattle.quant.proofs.float.round_half_up.Reads as reads
-use Rattle.quant.proofs.float.round_half_up.Lts as lts
-use Rattle.quant.proofs.float.at_least_one.Reads as at-least-one-reads
 
 -- what owning an f32 tells: the format holds it
 held : (c : tie.Start) → T (fits binary32 (c .args .x))

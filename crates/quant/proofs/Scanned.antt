@@ -1,0 +1,132 @@
+-- What a call over a scan answers and writes, from what its parts tell. Assumes nothing.
+use mathlib.Core.Path.{_≡_, refl, sym, ap, _∙_}
+use mathlib.Core.Bool.{Bool, true, false, not, _||_, true≢false}
+use mathlib.Core.List.{List, [], _∷_, _++_}
+use Prim.Native.Nat.{ℕ, _≤_, _<_}
+use native.Mathlib.Omega.{arith}
+use borrow.Author.Tests.{ltb-false, not-false}
+use lib.Dec.{ltb}
+use lib.IntN.{ℤ, pos}
+use lib.Ieee.{Float}
+use lib.ListN.{length, getD}
+use Rattle.answer.specs.Answer.{Answer, answers, refuses, lowest}
+use Rattle.answer.proofs.Answer.{passed}
+use Rattle.laws.specs.Store.{laid}
+use Rattle.laws.specs.Table.{every}
+use Rattle.laws.proofs.Laid.{laid-ext}
+use Rattle.sizes.specs.Size.{isSide}
+use Rattle.quant.specs.Scan.{namedAt, isLost, isDense, byCard, byScan, scanAnswer, scanned}
+use Rattle.quant.specs.Settings.{settingsOk, coefficientOk}
+use Rattle.quant.specs.declared.Settings.{Settings}
+use Rattle.quant.proofs.Front.{front-at}
+use Rattle.quant.proofs.Reading.{every-same}
+
+-- ---- more tests after a list of them
+
+-- what refuses a call refuses it whatever is tested later
+refused-more : (xs ys : List (Bool × ℕ)) (n k : ℕ) → refuses k ≡ lowest xs n → refuses k ≡ lowest (xs ++ ys) n
+unfolding lowest
+refused-more [] ys n k e = absurd (let z : _≡_ {A = ℕ} 0 1 = cc in omega arith)
+refused-more ((true, i) ∷ xs) ys n k e = e
+refused-more ((false, i) ∷ xs) ys n k e = refused-more xs ys n k e
+
+-- where nothing refuses it, the later tests decide
+passed-on : (xs ys : List (Bool × ℕ)) (n m : ℕ) → answers m ≡ lowest xs n → lowest (xs ++ ys) n ≡ lowest ys n
+unfolding lowest
+passed-on [] ys n m e = refl
+passed-on ((true, i) ∷ xs) ys n m e = absurd (let z : _≡_ {A = ℕ} 0 1 = cc in omega arith)
+passed-on ((false, i) ∷ xs) ys n m e = passed-on xs ys n m e
+
+-- ---- the answer
+
+or-none : (a b : Bool) → (a || b) ≡ false → (a ≡ false) × (b ≡ false)
+or-none true b e = absurd (true≢false e)
+or-none false b e = (refl, e)
+
+-- a call's arguments, of the two buffers their lengths
+pub record Call : Type 0 where
+  pub width : ℕ
+  pub step : ℕ
+  pub settings : Settings
+  pub coefficients : List ℤ
+  pub scan : List ℕ
+  pub levels : ℕ
+  pub magnitudes : ℕ
+
+-- what a call knows that numbers 1, 3 and 7 do not refuse
+pub record Card (k : Call) : Type 0 where
+  pub side : isSide (k .width) ≡ true
+  pub levels-room : length (k .scan) ≤ k .levels
+  pub magnitudes-room : length (k .scan) ≤ k .magnitudes
+  pub fine : settingsOk (k .settings) (k .step) ≡ true
+
+module _ (k : Call) where
+  abbrev n : ℕ
+  n = length (k .scan)
+
+  abbrev tests : List (Bool × ℕ)
+  tests = byCard (k .width) (k .step) (k .settings) n (k .levels) (k .magnitudes)
+
+  abbrev more : List (Bool × ℕ)
+  more = byScan (k .width) (k .coefficients) (k .scan)
+
+  abbrev pub byTheCard : Answer
+  byTheCard = lowest tests n
+
+  abbrev pub lost : Bool
+  lost = isLost (k .width) (length (k .coefficients)) (k .scan)
+
+  abbrev pub dense : Bool
+  dense = isDense (k .width) (k .coefficients) (k .scan)
+
+  abbrev pub answer : Answer
+  answer = scanAnswer (k .width) (k .step) (k .settings) (k .coefficients) (k .scan) (k .levels) (k .magnitudes)
+
+  pub card-refuses : (r : ℕ) → refuses r ≡ byTheCard → refuses r ≡ answer
+  unfolding scanAnswer
+  card-refuses r e = refused-more tests more n r e
+
+  module _ (m : ℕ) (ok : answers m ≡ byTheCard) where
+    pub card : Card k
+    card =
+        let a = passed (not (isSide (k .width))) 1 _ n m ok in
+        let b = passed (ltb (k .levels) n || ltb (k .magnitudes) n) 3 _ n m (a .1) in
+        let c = passed (not (settingsOk (k .settings) (k .step))) 7 _ n m (b .1) in
+        let short = or-none (ltb (k .levels) n) (ltb (k .magnitudes) n) (b .0) in
+        record {
+          side = not-false _ (a .0);
+          levels-room = ltb-false (k .levels) n (short .0);
+          magnitudes-room = ltb-false (k .magnitudes) n (short .1);
+          fine = not-false _ (c .0);
+        }
+
+    rest : answer ≡ lowest more n
+    unfolding scanAnswer
+    rest = passed-on tests more n m ok
+
+    pub scan-lost : lost ≡ true → refuses 8 ≡ answer
+    unfolding lowest
+    scan-lost e = sym (rest ∙ rw e)
+
+    pub scan-dense : lost ≡ false → dense ≡ true → refuses 9 ≡ answer
+    unfolding lowest
+    scan-dense e f = sym (rest ∙ rw (e, f))
+
+    pub scan-done : lost ≡ false → dense ≡ false → byTheCard ≡ answer
+    unfolding lowest
+    scan-done e f = passed-on tests [] n m ok ∙ sym (rest ∙ rw (e, f))
+
+  -- ---- the coefficients that the scan names, laid side by side over zeros
+
+  module _ (zeros named : List ℤ) (room : n ≤ length zeros) (is : named ≡ laid zeros 0 n (namedAt (k .width) (k .coefficients) (k .scan))) where
+    at : (i : ℕ) → i < n → getD named i (pos 0) ≡ namedAt (k .width) (k .coefficients) (k .scan) i
+    at i h = ap (λ (l : List ℤ). getD l i (pos 0)) is ∙ front-at zeros n (namedAt (k .width) (k .coefficients) (k .scan)) (pos 0) room i h
+
+    pub dense-is : not (every n (λ i. coefficientOk (getD named i (pos 0)))) ≡ dense
+    unfolding isDense
+    dense-is = ap not (every-same n _ _ (λ i h. ap coefficientOk (at i h)))
+
+    pub written-is : (buffer : List Float) (by of : ℤ → Float) → ((c : ℤ) → by c ≡ of c)
+        → laid buffer 0 n (λ i. by (getD named i (pos 0))) ≡ scanned of (k .width) (k .coefficients) (k .scan) buffer
+    unfolding scanned
+    written-is buffer by of e = laid-ext buffer 0 n _ _ (λ i h. e (getD named i (pos 0)) ∙ ap of (at i h))
