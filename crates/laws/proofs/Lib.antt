@@ -1,5 +1,6 @@
 pub mod Congruence
 pub mod Divide
+pub mod Front
 pub mod Integer
 pub mod Laid
 pub mod Place

@@ -1,7 +1,7 @@
 -- A value compared with a power of two, and what a test of the order says of two fractions. Assumes nothing.
 use mathlib.Core.Path.{_≡_, refl, sym, ap, _∙_, subst}
 use mathlib.Core.Logic.{⊎-elim}
-use mathlib.Core.Bool.{Bool, true, false, not, _&&_, _||_, true≢false, false≢true}
+use mathlib.Core.Bool.{Bool, true, false, _&&_, _||_, true≢false, false≢true}
 use Prim.Native.Nat.{ℕ, _*_, _^_, _≤_, _<_}
 use native.Mathlib.Nat.{eq-or-lt-of-le, le-of-lt, le-of-eq, lt-of-not-le, not-le-of-lt, mul-one, one-mul, zero-lt-suc}
 use native.Mathlib.Omega.{arith}

@@ -2,14 +2,14 @@
 use mathlib.Core.Path.{_≡_, refl, sym, ap, _∙_, subst}
 use mathlib.Core.Logic.{⊎-elim}
 use mathlib.Core.Bool.{Bool, true, false, not, cond, true≢false}
-use Prim.Native.Nat.{ℕ, zero, suc, _+_, _-_, _*_, _/_, _%_, _^_, _≤_, _<_}
-use native.Mathlib.Nat.{zero-lt-suc, mul-one, one-mul, mul-comm, mul-assoc, mul-add, mul-right-comm, add-mul, mul-le-mul, mul-le-mul-left, mul-le-mul-right, mul-add-mod-self-right, mul-div-mul-left, div-lt-iff-lt-mul, le-div-iff-mul-le, div-add-mod', mod-eq-of-lt, pow-succ', lt-of-lt-of-le, le-trans, eq-or-lt-of-le, not-le-of-lt, lt-of-not-le, le-of-suc-le-suc}
+use Prim.Native.Nat.{ℕ, suc, _+_, _-_, _*_, _/_, _%_, _^_, _≤_, _<_}
+use native.Mathlib.Nat.{zero-lt-suc, mul-one, one-mul, mul-assoc, add-mul, mul-le-mul, mul-le-mul-left, mul-le-mul-right, mul-add-mod-self-right, mul-div-mul-left, div-lt-iff-lt-mul, le-div-iff-mul-le, div-add-mod', mod-eq-of-lt, pow-succ', lt-of-lt-of-le, le-trans, eq-or-lt-of-le, not-le-of-lt, lt-of-not-le, le-of-suc-le-suc}
 use native.Mathlib.Omega.{arith}
 use borrow.Author.Tests.{leb-false}
-use lib.Dec.{T, leb, eqb, lit<, lit≤}
+use lib.Dec.{T, lit≤}
 use lib.IntN.{pos}
 use lib.Pow.{pow-add, pow-pos, pow-mono, pow-lt, shl-lt}
-use lib.Ieee.{Float, nan, inf, fin, binary32, lt, le, fits, isNan, ofInt, ofFields, ofBits, toBits, nanBits}
+use lib.Ieee.{Float, nan, inf, fin, binary32, lt, le, fits, isNan, ofInt, ofBits, toBits, nanBits}
 use lib.Ieee.Back.{whole-unique}
 use lib.Ieee.Bits.{ofBits-toBits, ofBits-fits, nanBits-is}
 use lib.Ieee.Exact.{HasValue}

@@ -1,12 +1,12 @@
 -- Every magnitude and every level is a number, and finite: for all settings and steps that are accepted, and every coefficient that is.
 -- The zero coefficient has magnitude +0.0 and level +0.0 under all of them, the smallest step too: it is never a NaN. Assumes nothing.
-use mathlib.Core.Path.{_≡_, refl, sym, ap, _∙_, subst}
+use mathlib.Core.Path.{_≡_, refl, ap, _∙_}
 use mathlib.Core.Bool.{Bool, true, false, cond}
-use Prim.Native.Nat.{ℕ, _^_}
+use Prim.Native.Nat.{ℕ}
 use native.Mathlib.Nat.{le-trans}
 use lib.Dec.{T, lit≤}
 use lib.IntN.{ℤ, pos, negsuc}
-use lib.Ieee.{Float, nan, inf, fin, binary32, add, sub, neg, mul, le, ofInt}
+use lib.Ieee.{Float, nan, inf, fin, binary32, add, sub, neg, le, ofInt}
 use lib.Ieee.Scale.{finite}
 use Rattle.quant.specs.Float.{zero32, half32, absOf, signOf, max0Of, roundOf}
 use Rattle.quant.specs.Settings.{settingsOk, coefficientOk}
@@ -15,7 +15,7 @@ use Rattle.quant.specs.declared.Settings.{Settings}
 use Rattle.quant.proofs.Rounding.{int-value}
 use Rattle.quant.proofs.Ranges.{InRange, in-range, coefficient-size}
 use Rattle.quant.proofs.Zero.{zero-whole, zero-product, bias-under, inverse-sign}
-use Rattle.quant.proofs.Small.{Small, small-finite, weaken, small-abs, round-small, mul-small, div-small, add-small, int-small, round-of-small, max-small, range-small}
+use Rattle.quant.proofs.Small.{Small, small-finite, weaken, small-abs, mul-small, div-small, add-small, int-small, round-of-small, max-small, range-small}
 
 sign-small : (p : Float) → T (finite p) → Small 0 (signOf p)
 sign-small nan f = f

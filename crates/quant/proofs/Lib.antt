@@ -1,7 +1,6 @@
 pub mod Compare
 pub mod Cut
 pub mod Finite
-pub mod Front
 pub mod Pattern
 pub mod Ranges
 pub mod Reading

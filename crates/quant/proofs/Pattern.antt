@@ -5,7 +5,7 @@ use Prim.Native.Nat.{ℕ, zero, suc, _+_, _-_, _*_, _/_, _%_, _^_, _≤_, _<_}
 use native.Mathlib.Nat.{mod-eq-of-lt, not-le-of-lt, lt-of-not-le}
 use native.Mathlib.Omega.{arith}
 use lib.Dec.{T, leb, leb→le, eqb, eqb→eq, not-T}
-use lib.Ieee.{Float, nan, inf, fin, binary32, odd, ofFields, ofBits, toBits, isNan, fits}
+use lib.Ieee.{Float, nan, inf, binary32, odd, ofFields, ofBits, toBits, isNan, fits}
 use lib.Ieee.Bits.{is-false, cond-no, ofBits-toBits}
 use lib.Ieee.Exact.{HasValue, odd-sign}
 use lib.Ieee.Scale.{finite}

@@ -6,7 +6,7 @@ use native.Mathlib.Nat.{le-trans}
 use native.Mathlib.Omega.{arith}
 use lib.Dec.{T, leb, leb→le, le→leb, lt→ltb, lit≤}
 use lib.IntN.{ℤ, pos, negsuc, natAbs}
-use lib.Ieee.{Float, binary32, inFloat}
+use lib.Ieee.{binary32, inFloat}
 use lib.Ieee.Fits.{and-l, and-r}
 use lib.Signed.{leZ}
 use Rattle.quant.specs.Settings.{stepOk, factorOk, thresholdOk, deadZoneOk, settingsOk, coefficientOk}

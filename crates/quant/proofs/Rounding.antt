@@ -1,14 +1,14 @@
 -- Rounding to a whole number, half upward, by the value: below 0.5, from 0.5 to 1, and from 2 ^ 23 on. Assumes nothing.
 use mathlib.Core.Path.{_≡_, refl, sym, ap, _∙_, subst}
-use mathlib.Core.Bool.{Bool, true, false, not, _&&_, cond, true≢false, false≢true}
+use mathlib.Core.Bool.{Bool, true, false, not, _&&_}
 use Prim.Native.Nat.{ℕ, zero, suc, _+_, _*_, _/_, _%_, _^_, _≤_, _<_}
-use native.Mathlib.Nat.{zero-lt-suc, mul-pos, mul-one, one-mul, zero-mul, mul-comm, mul-assoc, mul-left-comm, mul-right-comm, mul-mul-mul-comm, add-mul, mul-lt-mul-of-pos-right, mul-le-mul-left, div-eq-of-lt, div-lt-iff-lt-mul, le-div-iff-mul-le, eq-of-mul-eq-mul-right, le-trans, lt-of-lt-of-le, not-le-of-lt}
+use native.Mathlib.Nat.{zero-lt-suc, mul-pos, mul-one, one-mul, zero-mul, mul-comm, mul-assoc, mul-left-comm, mul-right-comm, mul-mul-mul-comm, add-mul, mul-lt-mul-of-pos-right, mul-le-mul-left, div-eq-of-lt, div-lt-iff-lt-mul, le-div-iff-mul-le, eq-of-mul-eq-mul-right}
 use native.Mathlib.Omega.{arith}
 use borrow.Author.Tests.{ltb-true, ltb-false}
-use lib.Dec.{T, ltb, leb, eqb, ltb→lt, lit<, lit≤}
+use lib.Dec.{T, ltb, leb, eqb, ltb→lt, lit<}
 use lib.IntN.{pos, negsuc}
 use lib.Pow.{pow-add, pow-pos, pow-mono}
-use lib.Ieee.{Float, nan, inf, fin, binary32, up, down, lt, le, fits, isNan, ofInt, round}
+use lib.Ieee.{Float, nan, inf, fin, binary32, up, down, lt, le, fits, isNan, ofInt}
 use lib.Ieee.Back.{whole-unique, round-whole}
 use lib.Ieee.Exact.{HasValue, round-exact}
 use lib.Ieee.Fits.{down-pos, and-l, and-r, ofInt-fits}

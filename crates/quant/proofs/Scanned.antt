@@ -1,16 +1,16 @@
 -- What a call over a scan answers and writes, from what its parts tell. Assumes nothing.
 use mathlib.Core.Path.{_≡_, refl, sym, ap, _∙_}
-use mathlib.Core.Bool.{Bool, true, false, not, _||_, true≢false}
-use mathlib.Core.List.{List, [], _∷_, _++_}
+use mathlib.Core.Bool.{Bool, true, false, not, cond, _||_, true≢false}
+use mathlib.Core.List.{List, []}
 use Prim.Native.Nat.{ℕ, _≤_, _<_}
-use native.Mathlib.Omega.{arith}
 use borrow.Author.Tests.{ltb-false, not-false}
 use lib.Dec.{ltb}
 use lib.IntN.{ℤ, pos}
 use lib.Ieee.{Float}
 use lib.ListN.{length, getD}
-use Rattle.answer.specs.Answer.{Answer, answers, refuses, lowest}
-use Rattle.answer.proofs.Answer.{passed}
+use Rattle.answer.specs.Answer.{Answer, answers, refuses, lowest, after}
+use Rattle.answer.proofs.Answer.{passed, written}
+use Rattle.answer.proofs.More.{refused-more, passed-on}
 use Rattle.laws.specs.Store.{laid}
 use Rattle.laws.specs.Table.{every}
 use Rattle.laws.proofs.Laid.{laid-ext}
@@ -18,24 +18,7 @@ use Rattle.sizes.specs.Size.{isSide}
 use Rattle.quant.specs.Scan.{namedAt, isLost, isDense, byCard, byScan, scanAnswer, scanned}
 use Rattle.quant.specs.Settings.{settingsOk, coefficientOk}
 use Rattle.quant.specs.declared.Settings.{Settings}
-use Rattle.quant.proofs.Front.{front-at}
-use Rattle.quant.proofs.Reading.{every-same}
-
--- ---- more tests after a list of them
-
--- what refuses a call refuses it whatever is tested later
-refused-more : (xs ys : List (Bool × ℕ)) (n k : ℕ) → refuses k ≡ lowest xs n → refuses k ≡ lowest (xs ++ ys) n
-unfolding lowest
-refused-more [] ys n k e = absurd (let z : _≡_ {A = ℕ} 0 1 = cc in omega arith)
-refused-more ((true, i) ∷ xs) ys n k e = e
-refused-more ((false, i) ∷ xs) ys n k e = refused-more xs ys n k e
-
--- where nothing refuses it, the later tests decide
-passed-on : (xs ys : List (Bool × ℕ)) (n m : ℕ) → answers m ≡ lowest xs n → lowest (xs ++ ys) n ≡ lowest ys n
-unfolding lowest
-passed-on [] ys n m e = refl
-passed-on ((true, i) ∷ xs) ys n m e = absurd (let z : _≡_ {A = ℕ} 0 1 = cc in omega arith)
-passed-on ((false, i) ∷ xs) ys n m e = passed-on xs ys n m e
+use Rattle.laws.proofs.Front.{front-at, every-same}
 
 -- ---- the answer
 
@@ -112,13 +95,20 @@ module _ (k : Call) where
     unfolding lowest
     scan-dense e f = sym (rest ∙ rw (e, f))
 
-    pub scan-done : lost ≡ false → dense ≡ false → byTheCard ≡ answer
+    pub scan-done : lost ≡ false → dense ≡ false → answers m ≡ answer
     unfolding lowest
-    scan-done e f = passed-on tests [] n m ok ∙ sym (rest ∙ rw (e, f))
+    scan-done e f = ok ∙ passed-on tests [] n m ok ∙ sym (rest ∙ rw (e, f))
 
   -- ---- the coefficients that the scan names, laid side by side over zeros
 
-  module _ (zeros named : List ℤ) (room : n ≤ length zeros) (is : named ≡ laid zeros 0 n (namedAt (k .width) (k .coefficients) (k .scan))) where
+  abbrev pub named-over : List ℤ → List ℤ
+  named-over zeros = laid zeros 0 n (namedAt (k .width) (k .coefficients) (k .scan))
+
+  -- what `name_coefficients` leaves where it found every place
+  pub named-is : (found : Bool) (zeros named : List ℤ) → named ≡ cond found (named-over zeros) zeros → found ≡ true → named ≡ named-over zeros
+  named-is found zeros named e f = e ∙ ap (λ (t : Bool). cond t (named-over zeros) zeros) f
+
+  module _ (zeros named : List ℤ) (room : n ≤ length zeros) (is : named ≡ named-over zeros) where
     at : (i : ℕ) → i < n → getD named i (pos 0) ≡ namedAt (k .width) (k .coefficients) (k .scan) i
     at i h = ap (λ (l : List ℤ). getD l i (pos 0)) is ∙ front-at zeros n (namedAt (k .width) (k .coefficients) (k .scan)) (pos 0) room i h
 
@@ -126,7 +116,10 @@ module _ (k : Call) where
     unfolding isDense
     dense-is = ap not (every-same n _ _ (λ i h. ap coefficientOk (at i h)))
 
-    pub written-is : (buffer : List Float) (by of : ℤ → Float) → ((c : ℤ) → by c ≡ of c)
-        → laid buffer 0 n (λ i. by (getD named i (pos 0))) ≡ scanned of (k .width) (k .coefficients) (k .scan) buffer
+    -- a buffer that is written by the numbers of the named coefficients, of an accepted call
+    pub written-is : (m : ℕ) (buffer after-call : List Float) (by of : ℤ → Float) → answers m ≡ answer → ((c : ℤ) → by c ≡ of c)
+        → after-call ≡ laid buffer 0 n (λ i. by (getD named i (pos 0)))
+        → after-call ≡ after answer (scanned of (k .width) (k .coefficients) (k .scan) buffer) buffer
     unfolding scanned
-    written-is buffer by of e = laid-ext buffer 0 n _ _ (λ i h. e (getD named i (pos 0)) ∙ ap of (at i h))
+    written-is m buffer after-call by of a e f =
+        written buffer a (f ∙ laid-ext buffer 0 n (λ i. by (getD named i (pos 0))) (λ i. of (namedAt (k .width) (k .coefficients) (k .scan) i)) (λ i h. e (getD named i (pos 0)) ∙ ap of (at i h)))

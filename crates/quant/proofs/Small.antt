@@ -1,20 +1,20 @@
 -- How large the result of an f32 operation can be. `Small k x` says that x is a number, finite, and at most 2 ^ k in size. Assumes nothing.
 use mathlib.Core.Path.{_≡_, refl, sym, ap, _∙_, subst}
-use mathlib.Core.Bool.{Bool, true, false, not, _&&_, _||_, Bool·beq, cond, true≢false, false≢true}
-use Prim.Native.Nat.{ℕ, zero-le, zero, suc, _+_, _-_, _*_, _/_, _^_, _≤_, _<_}
-use native.Mathlib.Nat.{le-trans, le-of-eq, le-of-suc-le-suc, lt-of-lt-of-le, lt-irrefl, zero-lt-suc, mul-one, one-mul, zero-mul, mul-comm, mul-assoc, mul-right-comm, mul-left-comm, mul-mul-mul-comm, add-mul, suc-mul, mul-le-mul, mul-le-mul-left, mul-le-mul-right, mul-pos, le-of-mul-le-mul-right, pow-succ', div-lt-iff-lt-mul}
+use mathlib.Core.Bool.{Bool, true, false, not, _&&_, _||_, Bool·beq, cond, true≢false}
+use Prim.Native.Nat.{ℕ, zero-le, zero, suc, _+_, _-_, _*_, _^_, _≤_, _<_}
+use native.Mathlib.Nat.{le-trans, le-of-eq, le-of-suc-le-suc, lt-of-lt-of-le, lt-irrefl, zero-lt-suc, mul-one, one-mul, zero-mul, mul-comm, mul-assoc, mul-right-comm, mul-left-comm, mul-mul-mul-comm, suc-mul, mul-le-mul, mul-le-mul-right, mul-pos, le-of-mul-le-mul-right, pow-succ', div-lt-iff-lt-mul}
 use native.Mathlib.Omega.{arith}
 use borrow.Author.Tests.{ne-eqb}
 use lib.Dec.{T, ltb, eqb, leb→le, ltb→lt, lit<, lit≤}
 use lib.IntN.{ℤ, pos, negsuc, natAbs}
-use lib.Pow.{pow-add, pow-pos, pow-mono, pow-lt}
-use lib.Ieee.{Float, nan, inf, fin, binary32, up, down, unlike, odd, units, round, neg, sum, add, mul, div, lt, le, isNan, inFloat, ofInt}
+use lib.Pow.{pow-add, pow-mono, pow-lt}
+use lib.Ieee.{Float, nan, inf, fin, binary32, up, down, unlike, odd, units, round, sum, add, mul, div, lt, le, isNan, inFloat, ofInt}
 use lib.Ieee.Bits.{is-true}
 use lib.Ieee.Exact.{HasValue, round-exact}
-use lib.Ieee.Fits.{round-is, up-pos, down-pos, and-l, and-r}
+use lib.Ieee.Fits.{round-is, down-pos, and-l, and-r}
 use lib.Ieee.Order.{round-mono}
 use lib.Ieee.Scale.{finite}
-use Rattle.quant.specs.Float.{zero32, plain, absOf, max0Of, halfUp, roundOf}
+use Rattle.quant.specs.Float.{zero32, absOf, max0Of, halfUp, roundOf}
 use Rattle.quant.specs.Settings.{within}
 use Rattle.quant.proofs.Compare.{leTest, le-true, level-zero}
 

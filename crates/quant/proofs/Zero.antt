@@ -2,18 +2,18 @@
 use mathlib.Core.Path.{_≡_, refl, sym, ap, _∙_, subst}
 use mathlib.Core.Bool.{Bool, true, false, not, _&&_, _||_, cond}
 use Prim.Native.Nat.{ℕ, zero-le, _+_, _-_, _*_, _^_, _≤_, _<_}
-use native.Mathlib.Nat.{zero-mul, zero-lt-suc, mul-pos, mul-one, one-mul}
+use native.Mathlib.Nat.{zero-mul, zero-lt-suc, mul-pos, one-mul}
 use native.Mathlib.Omega.{arith}
 use borrow.Author.Tests.{ltb-false, le-ltb}
 use lib.Dec.{T, ltb, eqb}
-use lib.IntN.{pos, negsuc}
+use lib.IntN.{pos}
 use lib.Ieee.{Float, nan, inf, fin, binary32, up, down, odd, units, round, sum, add, sub, neg, mul, div, ofInt, unlike, lt, le}
 use lib.Ieee.Bits.{is-true}
 use lib.Ieee.Fits.{round-is, down-pos, and-l, and-r}
 use lib.Ieee.Scale.{round-same, finite}
-use Rattle.quant.specs.Float.{zero32, half32, absOf, plain, negative, max0Of, roundOf}
+use Rattle.quant.specs.Float.{zero32, half32, negative, max0Of, roundOf}
 use Rattle.quant.specs.Level.{inverseOf, productOf, wholeOf}
-use Rattle.quant.specs.Settings.{within, factorOk, deadZoneOk}
+use Rattle.quant.specs.Settings.{factorOk, deadZoneOk}
 use Rattle.quant.specs.declared.Settings.{Settings}
 use Rattle.quant.proofs.Compare.{leTest, le-true, level-zero}
 use Rattle.quant.proofs.Pattern.{odd-negative}

@@ -1,5 +1,5 @@
 -- The level and the magnitude of a coefficient ("Levels"). Each f32 operation is rounded once, in document 01's order.
-use mathlib.Core.Bool.{Bool, cond}
+use mathlib.Core.Bool.{cond}
 use Prim.Native.Nat.{ℕ}
 use lib.IntN.{ℤ, pos}
 use lib.Ieee.{Float, binary32, add, sub, mul, div, le, ofInt}

@@ -8,7 +8,6 @@ use Rattle.answer.specs.Answer.{Answer, answers, refuses, numberOf, lowest}
 use Rattle.quant.specs.Level.{levelAt, magnitudeAt}
 use Rattle.quant.specs.Settings.{settingsOk, coefficientOk}
 use Rattle.quant.specs.declared.Settings.{Settings}
-use Rattle.quant.specs.declared.Place.{Place}
 use Rattle.quant.specs.declared.Place.the-variants.{Dropped, Kept}
 use Rattle.quant.specs.declared.Quantized.{Quantized}
 use Rattle.quant.specs.declared.Quantized.the-variants.{Refused, At}

@@ -15,7 +15,6 @@ ghost use lib.ListN.{length, getD};
 ghost use Rattle.answer.specs.Answer.{told, lowest};
 ghost use Rattle.laws.specs.Store.{laid};
 ghost use Rattle.laws.specs.Table.{every};
-ghost use Rattle.sizes.specs.Size.{isSide};
 ghost use Rattle.quant.specs.Float.{absOf};
 ghost use Rattle.quant.specs.Level.{productOf, levelOf};
 ghost use Rattle.quant.specs.Settings.{coefficientOk};

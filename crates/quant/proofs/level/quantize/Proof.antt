@@ -3,9 +3,7 @@ use mathlib.Core.Path.{_≡_, sym, ap, _∙_, subst}
 use mathlib.Core.Bool.{not}
 use borrow.Author.Needs.{needs}
 use lib.Dec.{T}
-use lib.IntN.{ℤ}
-use lib.Ieee.{Float, binary32, ofBits, isNan, inFloat}
-use lib.Ieee.Scale.{finite}
+use lib.Ieee.{Float, ofBits, isNan}
 use mir.Syntax.{w32}
 use mir.Val.{toZ, ofZ}
 use mir.ValLaws.{toZ-ofZ}

@@ -11,7 +11,7 @@ use mir.Syntax.{w32}
 use mir.ValLaws.{toZ-ofZ}
 use Rattle.laws.specs.Table.{every}
 use Rattle.quant.specs.Settings.{coefficientOk}
-use Rattle.quant.proofs.Front.{every-turn}
+use Rattle.laws.proofs.Front.{every-turn}
 use Rattle.quant.proofs.scan.coefficients_ok.Statement.{statement}
 use Rattle.quant.proofs.scan.coefficients_ok.Tie as tie
 

@@ -19,7 +19,7 @@ use Rattle.quant.specs.Float.{absOf}
 use Rattle.quant.specs.Level.{productOf, levelOf}
 use Rattle.quant.specs.Settings.{coefficientOk}
 use Rattle.quant.specs.declared.level.Scale.{Scale}
-use Rattle.quant.proofs.Front.{filled}
+use Rattle.laws.proofs.Front.{filled}
 use Rattle.quant.proofs.Ranges.{coefficient-size, in-float}
 use Rattle.quant.proofs.scan.fill.Statement.{statement}
 use Rattle.quant.proofs.scan.fill.Tie as tie

@@ -1,16 +1,15 @@
 -- `quant::scan::find_places` meets its contract: after i turns the first i places are there, and tested. Assumes nothing.
-use mathlib.Core.Path.{_≡_, refl, ap, ap₂, _∙_}
-use mathlib.Core.Bool.{Bool, _&&_}
+use mathlib.Core.Path.{_≡_, refl, ap, _∙_}
+use mathlib.Core.Bool.{Bool}
 use mathlib.Core.List.{List}
 use Prim.Native.Nat.{ℕ, _-_, _≤_}
-use native.Mathlib.Numerals.{add-one}
 use native.Mathlib.Omega.{arith}
 use lib.Dec.{ltb}
 use lib.ListN.{length, getD}
 use Rattle.laws.specs.Table.{every}
 use Rattle.laws.proofs.Store.{Stored, stored-none, stored-turn, stored-length}
 use Rattle.quant.specs.Scan.{meant}
-use Rattle.quant.proofs.Front.{filled, every-turn}
+use Rattle.laws.proofs.Front.{filled, every-turn}
 use Rattle.quant.proofs.scan.find_places.Statement.{statement}
 use Rattle.quant.proofs.scan.find_places.Tie as tie
 

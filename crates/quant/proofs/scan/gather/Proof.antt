@@ -1,15 +1,14 @@
 -- `quant::scan::gather` meets its contract: after i turns the first i coefficients are there. Assumes nothing.
-use mathlib.Core.Path.{_≡_, refl}
+use mathlib.Core.Path.{refl}
 use mathlib.Core.List.{List}
 use Prim.Native.Nat.{ℕ, _-_, _≤_}
 use native.Mathlib.Omega.{arith}
-use borrow.Author.Needs.{needs, scaled-fits}
 use lib.IntN.{ℤ, pos}
-use lib.ListN.{length, getD}
+use lib.ListN.{getD}
 use mir.Syntax.{w32}
 use mir.ValLaws.{toZ-ofZ}
 use Rattle.laws.proofs.Store.{Stored, stored-none, stored-turn, stored-length}
-use Rattle.quant.proofs.Front.{filled}
+use Rattle.laws.proofs.Front.{filled}
 use Rattle.quant.proofs.scan.gather.Statement.{statement}
 use Rattle.quant.proofs.scan.gather.Tie as tie
 

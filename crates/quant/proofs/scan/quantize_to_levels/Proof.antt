@@ -1,8 +1,8 @@
 -- `quant::scan::quantize_to_levels` meets its contract. Assumes nothing.
-use mathlib.Core.Path.{_≡_, refl, sym, ap, _∙_, subst}
-use mathlib.Core.Bool.{Bool, true, false, not, cond}
+use mathlib.Core.Path.{_≡_, sym, ap, _∙_, subst}
+use mathlib.Core.Bool.{false, not}
 use mathlib.Core.List.{List}
-use Prim.Native.Nat.{ℕ, _≤_}
+use Prim.Native.Nat.{_≤_}
 use native.Mathlib.Omega.{arith}
 use borrow.Author.Needs.{needs}
 use borrow.Author.Tests.{not-true, not-false}
@@ -10,16 +10,15 @@ use lib.Dec.{T, lit≤}
 use lib.IntN.{ℤ, pos}
 use lib.Ieee.{Float}
 use lib.Ieee.Scale.{finite}
-use lib.ListN.{length, getD, replicate}
-use Rattle.answer.specs.Answer.{told, answers, refuses, lowest}
-use Rattle.answer.proofs.Answer.{kept, written}
-use Rattle.laws.specs.Store.{laid}
+use lib.ListN.{length, replicate}
+use Rattle.answer.specs.Answer.{numberOf, told, answers, refuses}
+use Rattle.answer.proofs.Answer.{kept}
 use Rattle.sizes.proofs.Side.{side-bounds}
-use Rattle.quant.specs.Scan.{namedAt, isLost, isDense, byCard, scanAnswer, levelsAfter, magnitudesAfter}
+use Rattle.quant.specs.Scan.{levelsAfter, magnitudesAfter}
 use Rattle.quant.proofs.Finite.{inverse-finite}
 use Rattle.quant.proofs.Ranges.{in-range, in-float}
 use Rattle.quant.proofs.Reading.{not-lost-short}
-use Rattle.quant.proofs.Scanned.{Call, Card, byTheCard, lost, dense, answer, card, card-refuses, scan-lost, scan-dense, scan-done, dense-is, written-is}
+use Rattle.quant.proofs.Scanned.{Call, Card, byTheCard, lost, dense, named-over, named-is, card, card-refuses, scan-lost, scan-dense, scan-done, dense-is, written-is}
 use Rattle.quant.proofs.Written.{scaled-level, scaled-magnitude}
 use Rattle.quant.proofs.scan.quantize_to_levels.Statement.{statement}
 use Rattle.quant.proofs.scan.quantize_to_levels.Tie as tie
@@ -36,6 +35,9 @@ start c = c .before .before .before .before .before .before
 
 accepted : (c : tie.After-enum-told) → answers (c .enum-told .given .0 .0) ≡ byTheCard (call (start c))
 accepted c = sym (ap told (c .enum-told .given .1)) ∙ c .before .before .admit .ensures
+
+refused : (c : tie.After-enum-told2) → refuses (numberOf (c .enum-told2 .given .0 .0)) ≡ byTheCard (call (c .before .before .before .before .before .before))
+refused c = sym (ap told (c .enum-told2 .given .1)) ∙ c .before .before .admit .ensures
 
 on-card : (c : tie.After-enum-told) → Card (call (start c))
 on-card c = card (call (start c)) _ (accepted c)
@@ -56,16 +58,13 @@ zeros = replicate 1024 (pos 0)
 abbrev list : tie.Else1 → List ℤ
 list c = past-names c .name-coefficients .last .1 .1 .1 .0
 
-named-are : (c : tie.Else1) →
-    let k = call (start (past-names c .before .before)) in
-    list c ≡ laid zeros 0 (length (k .scan)) (namedAt (k .width) (k .coefficients) (k .scan))
+named-are : (c : tie.Else1) → list c ≡ named-over (call (start (past-names c .before .before))) zeros
 named-are c =
-    let k = call (start (past-names c .before .before)) in
-    past-names c .name-coefficients .ensures .1
-    ∙ ap (λ (t : Bool). cond t (laid zeros 0 (length (k .scan)) (namedAt (k .width) (k .coefficients) (k .scan))) zeros) (not-false (past-names c .name-coefficients .result) (c .if1 .left))
+    let at = past-names c in
+    named-is (call (start (at .before .before))) (at .name-coefficients .result) zeros (list c) (at .name-coefficients .ensures .1) (not-false (at .name-coefficients .result) (c .if1 .left))
 
 room : (c : tie.Else1) → let k = call (start (past-names c .before .before)) in length (k .scan) ≤ 1024
-room c = let k = call (start (past-names c .before .before)) in not-lost-short (k .width) (length (k .coefficients)) (k .scan) (not-lost c)
+room c = let k = call (start (past-names c .before .before)) in not-lost-short (k .width) (k .coefficients) (k .scan) (not-lost c)
 
 -- the coefficients are tested
 dense-tested : (c : tie.After-coefficients-ok) → not (c .coefficients-ok .result) ≡ dense (call (start (past-names (c .before .before) .before .before)))
@@ -85,10 +84,8 @@ enum-told-2 c = search needs
 returns : tie.Need-returns
 unfolding levelsAfter magnitudesAfter
 returns c =
-    let at-admit = c .before .before in
-    let k = call (at-admit .before .before .before .before) in
-    let e = card-refuses k _ (sym (ap told (c .enum-told2 .given .1)) ∙ at-admit .admit .ensures) in
-    (ap told (c .enum-told2 .given .1) ∙ e, (kept _ _ e, kept _ _ e))
+    let e = card-refuses (call (c .before .before .before .before .before .before)) _ (refused c) in
+    (rw (c .enum-told2 .given .1) e, (kept _ _ e, kept _ _ e))
 
 slice-aggregate-name-coefficients : tie.Need-slice-aggregate-name-coefficients
 slice-aggregate-name-coefficients c = search needs
@@ -155,11 +152,12 @@ returns-4 c =
     let k = call (start at) in
     let a = start at .args in
     let done = scan-done k _ (accepted at) (not-lost e) (sym (dense-tested at-ok) ∙ at-scale .before .if2 .left) in
-    let scale = at-scale .scale-of in (
-      at .before .before .admit .ensures ∙ done,
+    let scale = at-scale .scale-of in
+    let by-scale = written-is k zeros (list e) (room e) (named-are e) _ in (
+      rw (at .enum-told .given .1) done,
       (
-        written _ (accepted at ∙ done) (at-fill .fill .ensures .0 ∙ written-is k zeros (list e) (room e) (named-are e) (a .levels .now) _ _ (scaled-level (k .settings) (k .step) (scale .result) (scale .ensures))),
-        written _ (accepted at ∙ done) (at-fill .fill .ensures .1 ∙ written-is k zeros (list e) (room e) (named-are e) (a .magnitudes .now) _ _ (scaled-magnitude (k .settings) (k .step) (scale .result) (scale .ensures))),
+        by-scale (a .levels .now) _ _ _ done (scaled-level (k .settings) (k .step) (scale .result) (scale .ensures)) (at-fill .fill .ensures .0),
+        by-scale (a .magnitudes .now) _ _ _ done (scaled-magnitude (k .settings) (k .step) (scale .result) (scale .ensures)) (at-fill .fill .ensures .1),
       ),
     )
 

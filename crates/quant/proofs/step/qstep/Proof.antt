@@ -1,6 +1,5 @@
 -- `quant::step::qstep` meets its contract. Assumes nothing.
 use mathlib.Core.Path.{_∙_}
-use native.Mathlib.Omega.{arith}
 use borrow.Author.Needs.{needs}
 use borrow.Author.Tests.{ne-eqb, le-leb, lt-leb}
 use Rattle.quant.specs.Step.{stepOf}
