@@ -9,4 +9,5 @@ pub mod Size
 pub mod Store
 pub mod Sum
 pub mod Table
+pub mod Test
 pub mod Wrap

@@ -1,85 +1,58 @@
--- Every magnitude and every level is a number, and finite: for all settings and steps that are accepted, and every coefficient that is.
--- The zero coefficient has magnitude +0.0 and level +0.0 under all of them, the smallest step too: it is never a NaN. Assumes nothing.
-use mathlib.Core.Path.{_≡_, refl, ap, _∙_}
-use mathlib.Core.Bool.{Bool, true, false, cond}
-use Prim.Native.Nat.{ℕ}
-use native.Mathlib.Nat.{le-trans}
-use lib.Dec.{T, lit≤}
-use lib.IntN.{ℤ, pos, negsuc}
-use lib.Ieee.{Float, nan, inf, fin, binary32, add, sub, neg, le, ofInt}
+-- No magnitude and no level is a NaN or an infinity, whatever settings, step and coefficient are accepted; and zero stays zero under all of
+-- them, the smallest step too. So it is of every number that an accepted call writes. Assumes nothing.
+use mathlib.Core.Path.{_≡_, sym, subst}
+use mathlib.Core.Bool.{true}
+use mathlib.Core.List.{List}
+use Prim.Native.Nat.{ℕ, _<_, _≤_}
+use lib.Dec.{T}
+use lib.IntN.{ℤ, pos}
+use lib.Ieee.{Float}
 use lib.Ieee.Scale.{finite}
-use Rattle.quant.specs.Float.{zero32, half32, absOf, signOf, max0Of, roundOf}
+use lib.ListN.{length, getD}
+use Rattle.answer.specs.Answer.{Answer, answers, after}
+use Rattle.laws.proofs.Front.{front-at}
+use Rattle.quant.specs.Float.{zero32}
+use Rattle.quant.specs.Level.{magnitudeAt, levelAt}
+use Rattle.quant.specs.Scan.{namedAt, scanAnswer, scanned, levelsAfter, magnitudesAfter}
 use Rattle.quant.specs.Settings.{settingsOk, coefficientOk}
-use Rattle.quant.specs.Level.{inverseOf, biasOf, productOf, wholeOf, levelOf, magnitudeAt, levelAt}
 use Rattle.quant.specs.declared.Settings.{Settings}
-use Rattle.quant.proofs.Rounding.{int-value}
-use Rattle.quant.proofs.Ranges.{InRange, in-range, coefficient-size}
-use Rattle.quant.proofs.Zero.{zero-whole, zero-product, bias-under, inverse-sign}
-use Rattle.quant.proofs.Small.{Small, small-finite, weaken, small-abs, mul-small, div-small, add-small, int-small, round-of-small, max-small, range-small}
+use Rattle.quant.proofs.Bounded as bounded
+use Rattle.quant.proofs.Scanned.{Call, answer, accepted}
 
-sign-small : (p : Float) → T (finite p) → Small 0 (signOf p)
-sign-small nan f = f
-sign-small (inf s) f = absurd f
-sign-small (fin s m e) f = lit≤ tt
+-- each accepted coefficient has a finite magnitude and a finite level
+pub always-finite : (s : Settings) (step : ℕ) (c : ℤ) → settingsOk s step ≡ true → coefficientOk c ≡ true
+    → T (finite (magnitudeAt s step c)) × T (finite (levelAt s step c))
+always-finite s step c ok fine = (bounded.magnitude-finite s step ok c fine, bounded.level-finite s step ok c fine)
 
-module _ (s : Settings) (step : ℕ) (ok : settingsOk s step ≡ true) where
-  r : InRange s step
-  r = in-range s step ok
+-- the zero coefficient has magnitude +0.0 and level +0.0
+pub zero-stays : (s : Settings) (step : ℕ) → settingsOk s step ≡ true → (magnitudeAt s step (pos 0) ≡ zero32) × (levelAt s step (pos 0) ≡ zero32)
+zero-stays s step ok = (bounded.zero-magnitude s step ok, bounded.zero-level s step ok)
 
-  inverse-small : Small 10 (inverseOf s step)
-  inverse-small =
-      div-small 10 step (s .factor) (lit≤ tt) (r .step-low) (range-small 1 (negsuc 9) 1 (pos 10) 10 (s .factor) (lit≤ tt) (r .factor-ok))
-      (ofInt binary32 (pos step)) (int-value step (le-trans (r .step-high) (lit≤ tt)))
+-- ---- every number that an accepted call over a scan writes is finite
 
-  pub inverse-finite : T (finite (inverseOf s step))
-  inverse-finite = small-finite 10 (inverseOf s step) inverse-small
+-- a buffer that is written by a number of each coefficient, which is finite for each that is in range
+finite-at : (k : Call) (of : ℤ → Float) → ((c : ℤ) → coefficientOk c ≡ true → T (finite (of c)))
+    → (m : ℕ) → answers m ≡ answer k → (buffer : List Float) → length (k .scan) ≤ length buffer → (i : ℕ) → i < length (k .scan) → (z : Float)
+    → T (finite (getD (after (answer k) (scanned of (k .width) (k .coefficients) (k .scan) buffer) buffer) i z))
+unfolding scanned
+finite-at k of f m e buffer room i h z =
+    subst (λ (a : Answer). T (finite (getD (after a (scanned of (k .width) (k .coefficients) (k .scan) buffer) buffer) i z))) e
+    (subst (λ (x : Float). T (finite x)) (sym (front-at buffer (length (k .scan)) (λ j. of (namedAt (k .width) (k .coefficients) (k .scan) j)) z room i h))
+    (f (namedAt (k .width) (k .coefficients) (k .scan) i) (accepted k m e .in-scan i h)))
 
-  bias-small : Small 1 (biasOf s)
-  unfolding sub neg
-  bias-small = add-small 0 (s .«dead_zone») (neg half32) (lit≤ tt) (range-small 0 (pos 0) 1 (negsuc 0) 0 (s .«dead_zone») (lit≤ tt) (r .dead-zone-ok)) (lit≤ tt)
+module _ (width step : ℕ) (s : Settings) (coefficients : List ℤ) (scan : List ℕ) (levels magnitudes : List Float)
+    (m : ℕ) (done : answers m ≡ scanAnswer width step s coefficients scan (length levels) (length magnitudes)) where
+  abbrev k : Call
+  k = record { width = width; step = step; settings = s; coefficients = coefficients; scan = scan; levels = length levels; magnitudes = length magnitudes }
 
-  module _ (c : ℤ) (fine : coefficientOk c ≡ true) where
-    abbrev product : Float
-    product = productOf (inverseOf s step) c
+  pub levels-finite : (i : ℕ) → i < length scan → (z : Float) → T (finite (getD (levelsAfter width step s coefficients scan levels magnitudes) i z))
+  unfolding levelsAfter
+  levels-finite =
+      let c = accepted k m done .on-card in
+      finite-at k (levelAt s step) (λ z ok. always-finite s step z (c .fine) ok .1) m done levels (c .levels-room)
 
-    product-small : Small 30 product
-    product-small = mul-small 20 10 (ofInt binary32 c) (inverseOf s step) (lit≤ tt) (int-small 20 c (lit≤ tt) (coefficient-size c fine)) inverse-small
-
-    pub magnitude-finite : T (finite (magnitudeAt s step c))
-    unfolding magnitudeAt
-    magnitude-finite = small-finite 30 (absOf product) (small-abs 30 product product-small)
-
-    whole-small : Small 31 (wholeOf (biasOf s) product)
-    whole-small =
-        let sum = add-small 30 (absOf product) (biasOf s) (lit≤ tt) (small-abs 30 product product-small) (weaken 1 30 (biasOf s) (lit≤ tt) bias-small) in
-        let top = max0Of (add binary32 (absOf product) (biasOf s)) in
-        mul-small 0 31 (signOf product) (roundOf top) (lit≤ tt) (sign-small product (small-finite 30 product product-small))
-        (round-of-small 31 top (lit≤ tt) (max-small 31 _ sum))
-
-    pub level-finite : T (finite (levelAt s step c))
-    unfolding levelAt levelOf
-    level-finite = go (le (s .threshold) (absOf product))
-      where
-        go : (t : Bool) → T (finite (cond t (wholeOf (biasOf s) product) zero32))
-        go true = small-finite 31 (wholeOf (biasOf s) product) whole-small
-        go false = tt
-
-  -- ---- the zero coefficient
-
-  none : productOf (inverseOf s step) (pos 0) ≡ zero32
-  none = zero-product (inverseOf s step) inverse-finite (inverse-sign s step (r .factor-ok))
-
-  pub zero-magnitude : magnitudeAt s step (pos 0) ≡ zero32
-  unfolding magnitudeAt
-  zero-magnitude = ap absOf none
-
-  pub zero-level : levelAt s step (pos 0) ≡ zero32
-  unfolding levelAt levelOf
-  zero-level = ap (levelOf (s .threshold) (biasOf s)) none ∙ either (le (s .threshold) zero32)
-    where
-      whole : wholeOf (biasOf s) zero32 ≡ zero32
-      whole = zero-whole (biasOf s) (small-finite 1 (biasOf s) bias-small) (bias-under (s .«dead_zone») (r .dead-zone-ok))
-
-      either : (t : Bool) → cond t (wholeOf (biasOf s) zero32) zero32 ≡ zero32
-      either true = whole
-      either false = refl
+  pub magnitudes-finite : (i : ℕ) → i < length scan → (z : Float) → T (finite (getD (magnitudesAfter width step s coefficients scan levels magnitudes) i z))
+  unfolding magnitudesAfter
+  magnitudes-finite =
+      let c = accepted k m done .on-card in
+      finite-at k (magnitudeAt s step) (λ z ok. always-finite s step z (c .fine) ok .0) m done magnitudes (c .magnitudes-room)

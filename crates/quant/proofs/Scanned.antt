@@ -1,18 +1,21 @@
 -- What a call over a scan answers and writes, from what its parts tell. Assumes nothing.
-use mathlib.Core.Path.{_≡_, refl, sym, ap, _∙_}
-use mathlib.Core.Bool.{Bool, true, false, not, cond, _||_, true≢false}
+use mathlib.Core.Path.{_≡_, sym, ap, _∙_, subst}
+use mathlib.Core.Bool.{Bool, true, false, not, cond, _||_}
 use mathlib.Core.List.{List, []}
 use Prim.Native.Nat.{ℕ, _≤_, _<_}
 use borrow.Author.Tests.{ltb-false, not-false}
-use lib.Dec.{ltb}
+use lib.Dec.{T, ltb}
 use lib.IntN.{ℤ, pos}
 use lib.Ieee.{Float}
+use lib.Ieee.Bits.{is-true}
 use lib.ListN.{length, getD}
 use Rattle.answer.specs.Answer.{Answer, answers, refuses, lowest, after}
 use Rattle.answer.proofs.Answer.{passed, written}
 use Rattle.answer.proofs.More.{refused-more, passed-on}
 use Rattle.laws.specs.Store.{laid}
 use Rattle.laws.specs.Table.{every}
+use Rattle.laws.proofs.Table.{every-at}
+use Rattle.laws.proofs.Test.{neither}
 use Rattle.laws.proofs.Laid.{laid-ext}
 use Rattle.sizes.specs.Size.{isSide}
 use Rattle.quant.specs.Scan.{namedAt, isLost, isDense, byCard, byScan, scanAnswer, scanned}
@@ -21,10 +24,6 @@ use Rattle.quant.specs.declared.Settings.{Settings}
 use Rattle.laws.proofs.Front.{front-at, every-same}
 
 -- ---- the answer
-
-or-none : (a b : Bool) → (a || b) ≡ false → (a ≡ false) × (b ≡ false)
-or-none true b e = absurd (true≢false e)
-or-none false b e = (refl, e)
 
 -- a call's arguments, of the two buffers their lengths
 pub record Call : Type 0 where
@@ -69,19 +68,18 @@ module _ (k : Call) where
   unfolding scanAnswer
   card-refuses r e = refused-more tests more n r e
 
+  from-tests : not (isSide (k .width)) ≡ false → (ltb (k .levels) n || ltb (k .magnitudes) n) ≡ false → not (settingsOk (k .settings) (k .step)) ≡ false → Card k
+  from-tests a b c =
+      let short = neither (ltb (k .levels) n) (ltb (k .magnitudes) n) b in
+      record { side = not-false _ a; levels-room = ltb-false (k .levels) n (short .0); magnitudes-room = ltb-false (k .magnitudes) n (short .1); fine = not-false _ c }
+
   module _ (m : ℕ) (ok : answers m ≡ byTheCard) where
     pub card : Card k
     card =
         let a = passed (not (isSide (k .width))) 1 _ n m ok in
         let b = passed (ltb (k .levels) n || ltb (k .magnitudes) n) 3 _ n m (a .1) in
         let c = passed (not (settingsOk (k .settings) (k .step))) 7 _ n m (b .1) in
-        let short = or-none (ltb (k .levels) n) (ltb (k .magnitudes) n) (b .0) in
-        record {
-          side = not-false _ (a .0);
-          levels-room = ltb-false (k .levels) n (short .0);
-          magnitudes-room = ltb-false (k .magnitudes) n (short .1);
-          fine = not-false _ (c .0);
-        }
+        from-tests (a .0) (b .0) (c .0)
 
     rest : answer ≡ lowest more n
     unfolding scanAnswer
@@ -98,6 +96,27 @@ module _ (k : Call) where
     pub scan-done : lost ≡ false → dense ≡ false → answers m ≡ answer
     unfolding lowest
     scan-done e f = ok ∙ passed-on tests [] n m ok ∙ sym (rest ∙ rw (e, f))
+
+  -- an accepted call: its settings are in range, and so is each coefficient that its scan names
+  pub record Accepted : Type 0 where
+    pub on-card : Card k
+    pub in-scan : (i : ℕ) → i < n → coefficientOk (namedAt (k .width) (k .coefficients) (k .scan) i) ≡ true
+
+  abbrev in-range : ℕ → Bool
+  in-range i = coefficientOk (namedAt (k .width) (k .coefficients) (k .scan) i)
+
+  pub accepted : (m : ℕ) → answers m ≡ answer → Accepted
+  unfolding scanAnswer isDense
+  accepted m e =
+      let a = passed (not (isSide (k .width))) 1 _ n m e in
+      let b = passed (ltb (k .levels) n || ltb (k .magnitudes) n) 3 _ n m (a .1) in
+      let c = passed (not (settingsOk (k .settings) (k .step))) 7 _ n m (b .1) in
+      let f = passed lost 8 _ n m (c .1) in
+      let g = passed dense 9 _ n m (f .1) in
+      record {
+        on-card = from-tests (a .0) (b .0) (c .0);
+        in-scan = λ i h. is-true _ (every-at n in-range (subst T (sym (not-false (every n in-range) (g .0))) tt) i h);
+      }
 
   -- ---- the coefficients that the scan names, laid side by side over zeros
 

@@ -1,3 +1,4 @@
+pub mod Examples
 pub mod Float
 pub mod Level
 pub mod Place

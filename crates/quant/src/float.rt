@@ -14,7 +14,7 @@ fn is_negative(x: f32) -> bool
 }
 
 // x without its sign.
-pub fn abs(x: f32) -> f32
+pub(crate) fn abs(x: f32) -> f32
     requires { ⌜ T (not (isNan x)) ⌝ }
     ensures { λ r. ⌜ r ≡ absOf x ⌝ }
 {
@@ -22,7 +22,7 @@ pub fn abs(x: f32) -> f32
 }
 
 // 1 with x's sign, a zero's too.
-pub fn sign(x: f32) -> f32
+pub(crate) fn sign(x: f32) -> f32
     requires { ⌜ T (not (isNan x)) ⌝ }
     ensures { λ r. ⌜ r ≡ signOf x ⌝ }
 {
@@ -30,7 +30,7 @@ pub fn sign(x: f32) -> f32
 }
 
 // x where it is above zero, and +0.0 otherwise.
-pub fn max0(x: f32) -> f32
+pub(crate) fn max0(x: f32) -> f32
     ensures { λ r. ⌜ r ≡ max0Of x ⌝ }
 {
     if 0.0 < x { x } else { 0.0 }
@@ -45,7 +45,7 @@ fn at_least_one(x: f32) -> f32
 
 // The nearest whole number, half upward, from x's bit pattern. From 2^23 on x is whole, and from 0.5 to 1 the answer is that of 1.
 // In between, a pattern's last digits are the fraction: half of the ones' place is added, and the fraction is cut off.
-pub fn round_half_up(x: f32) -> f32
+pub(crate) fn round_half_up(x: f32) -> f32
     requires { ⌜ T (plain x) ⌝ }
     ensures { λ r. ⌜ r ≡ roundOf x ⌝ }
 {

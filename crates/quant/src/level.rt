@@ -15,7 +15,7 @@ ghost use Rattle.quant.specs.Level.{inverseOf, biasOf, productOf, levelO
 ghost use Rattle.quant.specs.Place.{said, oneAnswer};
 
 // Whether each setting and the step are in range.
-pub fn settings_ok(settings: Settings, step: u32) -> bool
+pub(crate) fn settings_ok(settings: Settings, step: u32) -> bool
     ensures { λ r. ⌜ r ≡ settingsOk settings step ⌝ }
 {
     ((1 <= step) & (step <= 1048576))
@@ -25,20 +25,20 @@ pub fn settings_ok(settings: Settings, step: u32) -> bool
 }
 
 // Whether a coefficient is in range.
-pub fn coefficient_ok(coefficient: i32) -> bool
+pub(crate) fn coefficient_ok(coefficient: i32) -> bool
     ensures { λ r. ⌜ r ≡ coefficientOk coefficient ⌝ }
 {
     (-1048576 <= coefficient) & (coefficient <= 1048576)
 }
 
 // What settings and step come to, once for all coefficients.
-pub struct Scale {
-    pub inverse: f32,
-    pub threshold: f32,
-    pub bias: f32,
+pub(crate) struct Scale {
+    pub(crate) inverse: f32,
+    pub(crate) threshold: f32,
+    pub(crate) bias: f32,
 }
 
-pub fn scale_of(settings: Settings, step: u32) -> Scale
+pub(crate) fn scale_of(settings: Settings, step: u32) -> Scale
     requires { ⌜ T (inFloat binary32 (pos step)) ⌝ }
     ensures { λ r. ⌜ (r .inverse ≡ inverseOf settings step) × (r .threshold ≡ settings .threshold) × (r .bias ≡ biasOf settings) ⌝ }
 {
@@ -50,12 +50,12 @@ pub fn scale_of(settings: Settings, step: u32) -> Scale
 }
 
 // What is written for a coefficient.
-pub struct Written {
-    pub level: f32,
-    pub magnitude: f32,
+pub(crate) struct Written {
+    pub(crate) level: f32,
+    pub(crate) magnitude: f32,
 }
 
-pub fn quantize(scale: Scale, coefficient: i32) -> Written
+pub(crate) fn quantize(scale: Scale, coefficient: i32) -> Written
     requires { ⌜ T (inFloat binary32 coefficient) ⌝ }
     requires { ⌜ T (finite (scale .inverse)) ⌝ }
     ensures { λ r. ⌜ (r .level ≡ levelOf (scale .threshold) (scale .bias) (productOf (scale .inverse) coefficient)) × (r .magnitude ≡ absOf (productOf (scale .inverse) coefficient)) ⌝ }

@@ -14,7 +14,7 @@ use Rattle.answer.specs.Answer.{lowest}
 use Rattle.quant.specs.Level.{magnitudeAt, levelAt}
 use Rattle.quant.specs.Place.{kept, dropped, placeOf, oneAnswer}
 use Rattle.quant.specs.Settings.{settingsOk, coefficientOk}
-use Rattle.quant.proofs.Finite.{inverse-finite}
+use Rattle.quant.proofs.Bounded.{inverse-finite}
 use Rattle.quant.proofs.Ranges.{in-range, coefficient-size, in-float}
 use Rattle.quant.proofs.Written.{scaled-level, scaled-magnitude}
 use Rattle.quant.proofs.level.quantize_one.Statement.{statement}

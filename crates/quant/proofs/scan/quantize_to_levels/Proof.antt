@@ -15,7 +15,7 @@ use Rattle.answer.specs.Answer.{numberOf, told, answers, refuses}
 use Rattle.answer.proofs.Answer.{kept}
 use Rattle.sizes.proofs.Side.{side-bounds}
 use Rattle.quant.specs.Scan.{levelsAfter, magnitudesAfter}
-use Rattle.quant.proofs.Finite.{inverse-finite}
+use Rattle.quant.proofs.Bounded.{inverse-finite}
 use Rattle.quant.proofs.Ranges.{in-range, in-float}
 use Rattle.quant.proofs.Reading.{not-lost-short}
 use Rattle.quant.proofs.Scanned.{Call, Card, byTheCard, lost, dense, named-over, named-is, card, card-refuses, scan-lost, scan-dense, scan-done, dense-is, written-is}
