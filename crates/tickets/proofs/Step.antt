@@ -2,7 +2,7 @@
 -- Assumes nothing.
 use mathlib.Core.Path.{_≡_, refl, sym, ap, _∙_}
 use mathlib.Core.Logic.{_⊎_, inl, inr, ⊎-elim}
-use mathlib.Core.Bool.{Bool, true, false, cond, not, _&&_, _||_, Bool·beq, false≢true}
+use mathlib.Core.Bool.{Bool, true, false, cond, not, _&&_, _||_, Bool·beq, false≢true, or-false, and-false}
 use mathlib.Core.List.{List, [], _∷_}
 use Prim.Native.Nat.{ℕ, _+_, _-_, _*_, _%_, _<_, _≤_}
 use native.Mathlib.Nat.{mul-comm, mul-le-mul-right, le-trans}
@@ -13,7 +13,7 @@ use lib.Dec.{eqb, ltb}
 use lib.IntN.{ℤ}
 use lib.ListN.{length}
 use Rattle.laws.specs.Table.{every}
-use Rattle.laws.proofs.Bool.{both, either, neither, decided, or-false, and-false}
+use Rattle.laws.proofs.Bool.{both, either, neither, decided}
 use Rattle.laws.proofs.Every.{every-all, every-each, every-same}
 use Rattle.answer.specs.Answer.{Answer, answers, refuses, lowest, after}
 use Rattle.sizes.proofs.Side.{side-bounds}
