@@ -63,12 +63,12 @@ shape key = record {
       ∷ local (sliceTy (tyRef (named 2) mut (tyInt w32))) valueLocal ∷ local (tyInt w64) valueLocal ∷ local (tyInt w64) valueLocal ∷ local T′.mir valueLocal ∷ local N′.mir valueLocal
       ∷ local (tyRef erased mut (tyInt w32)) valueLocal ∷ local (sliceTy (tyRef erased mut (tyInt w32))) valueLocal ∷ [];
   body =
-    seq (assign (place 6 []) (rvOpd (copy (place 1 (deref T′.mir ∷ []))))) (
-    seq (assign (place 8 []) (addrOf (place 3 (field 0 ∷ deref (tyInt w32) ∷ [])))) (
-    seq (assign (place 9 []) (aggregate (copy (place 8 []) ∷ copy (place 3 (field 1 ∷ [])) ∷ []))) (
-    seq (call key (copy (place 6 []) ∷ copy (place 2 []) ∷ copy (place 9 []) ∷ copy (place 4 []) ∷ copy (place 5 []) ∷ []) (place 7 [])) (
-    seq (assign (place 1 (deref T′.mir ∷ [])) (rvOpd (copy (place 7 (field 0 ∷ []))))) (
-    seq (assign (place 0 []) (rvOpd (copy (place 7 (field 1 ∷ []))))) return)))));
+      seq (assign (place 6 []) (rvOpd (copy (place 1 (deref T′.mir ∷ []))))) (
+      seq (assign (place 8 []) (addrOf (place 3 (field 0 ∷ deref (tyInt w32) ∷ [])))) (
+      seq (assign (place 9 []) (aggregate (copy (place 8 []) ∷ copy (place 3 (field 1 ∷ [])) ∷ []))) (
+      seq (call key (copy (place 6 []) ∷ copy (place 2 []) ∷ copy (place 9 []) ∷ copy (place 4 []) ∷ copy (place 5 []) ∷ []) (place 7 [])) (
+      seq (assign (place 1 (deref T′.mir ∷ [])) (rvOpd (copy (place 7 (field 0 ∷ []))))) (
+      seq (assign (place 0 []) (rvOpd (copy (place 7 (field 1 ∷ []))))) return)))));
 }
 
 abbrev Rest : Type 0

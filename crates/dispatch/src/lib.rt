@@ -18,9 +18,9 @@ pub fn column_batch(
         ≡ batch (now (ticket .entry)) (batchOf false start lines) (now (residuals .entry)) (now (scratch .entry)) ⌝ }
 {
     let before = *ticket;
-    let m = tickets::column_batch(before, residuals, scratch, start, lines);
-    *ticket = m.ticket;
-    m.outcome
+    let columns = tickets::column_batch(before, residuals, scratch, start, lines);
+    *ticket = columns.ticket;
+    columns.outcome
 }
 
 // A row batch: lines of the second pass, scaled where a block is, from the scratch buffer into the output. Refused, it leaves the
@@ -36,7 +36,7 @@ pub fn row_batch(
         ≡ batch (now (ticket .entry)) (batchOf true start lines) (now (scratch .entry)) (now (output .entry)) ⌝ }
 {
     let before = *ticket;
-    let m = tickets::row_batch(before, scratch, output, start, lines);
-    *ticket = m.ticket;
-    m.outcome
+    let rows = tickets::row_batch(before, scratch, output, start, lines);
+    *ticket = rows.ticket;
+    rows.outcome
 }
