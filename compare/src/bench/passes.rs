@@ -1,7 +1,8 @@
-//! Passes over 32 lines: in lanes of 8, 4 and 1, and by the plain call.
+//! Passes over 32 lines: by the lane pass, all at once and 8, 4 and 1 at a time, and by the plain call.
 
 use super::timing::row;
 use crate::av2::fdct;
+use crate::mizdrek;
 use crate::oracle::{ADST, KERNELS};
 use crate::probe::passes as ours;
 use crate::random::Random;
@@ -20,7 +21,7 @@ pub fn rows() {
             let (side, lines) = black_box((side, LINES));
             fdct::pass(kind == ADST, side, black_box(SHIFT), lines, black_box(&src), black_box(&mut theirs));
         };
-        for lanes in [8, 4, 1] {
+        for lanes in [32, 8, 4, 1] {
             row(&format!("{name}{side} pass, lanes of {lanes}"), &mut rust, || {
                 let (kernel, lanes) = black_box(((side, kind, SHIFT), lanes));
                 for start in (0..LINES).step_by(lanes) {
@@ -30,19 +31,7 @@ pub fn rows() {
         }
         row(&format!("{name}{side} pass, plain"), &mut rust, || {
             let (side, kind, shift) = black_box((side, kind, SHIFT));
-            let _ = black_box(ours::pass(side, kind, shift, LINES, black_box(&src), black_box(&mut dst)));
-        });
-        #[cfg(feature = "interface")]
-        row(&format!("{name}{side} pass, C interface"), &mut rust, || {
-            let (side, kind, shift) = black_box((side, kind, SHIFT));
-            let _ = black_box(crate::mizdrek::pass(
-                side,
-                kind,
-                shift,
-                LINES,
-                black_box(&src),
-                black_box(&mut dst),
-            ));
+            let _ = black_box(mizdrek::pass(side, kind, shift, LINES, black_box(&src), black_box(&mut dst)));
         });
     }
 }

@@ -3,24 +3,14 @@
 use super::{Run, lanes};
 use crate::difference::{Input, Outcome, same};
 use crate::lent::Lent;
-use crate::mizdrek::Refusal;
 use crate::oracle::{self, KERNELS, SIDES};
-use crate::probe::passes as ours;
+use crate::mizdrek::{self as ours, Refusal};
 use crate::random::Random;
 use crate::rules;
 use crate::samples::{filling, impulse, length, samples};
 
 /// Numbers at which sums wrap, or round the other way.
 const EDGES: [i32; 8] = [i32::MIN, i32::MAX, -1, 1, 8_388_608, -8_388_608, 1 << 30, i32::MIN + 1];
-
-type Call = fn(usize, u32, i32, usize, &[i32], &mut [i32]) -> Result<usize, Refusal>;
-
-/// The calls that run a plain pass.
-const CALLS: &[(&str, Call)] = &[
-    ("probe_pass", ours::pass),
-    #[cfg(feature = "interface")]
-    ("mizdrek_pass", crate::mizdrek::pass),
-];
 
 struct Case {
     side: usize,
@@ -122,19 +112,16 @@ fn any(random: &mut Random) -> Case {
 
 impl Case {
     fn compare(&self, run: &mut Run) -> Outcome {
-        for (name, call) in CALLS {
-            run.case();
-            self.compare_call(*call).map_err(|d| d.of(name, &self.inputs()))?;
-        }
-        Ok(())
+        run.case();
+        self.compare_call().map_err(|d| d.of("mizdrek_pass", &self.inputs()))
     }
 
-    fn compare_call(&self, call: Call) -> Outcome {
+    fn compare_call(&self) -> Outcome {
         let Case { side, kind, shift, lines, .. } = *self;
         let expected = rules::transform::pass(side, kind, shift, lines, [self.src.len(), self.dst.len()]);
         let src = Lent::new(&self.src);
         let mut dst = Lent::new(&self.dst);
-        let answer = call(side, kind, shift, lines, src.read(), dst.write());
+        let answer = ours::pass(side, kind, shift, lines, src.read(), dst.write());
         same("the answer", expected, answer)?;
         src.holds("src", &self.src)?;
         dst.holds("dst", &self.dst_after(expected))

@@ -3,7 +3,7 @@
 use super::Run;
 use crate::av2::fdct;
 use crate::difference::{Input, Outcome, same};
-use crate::mizdrek::Refusal;
+use crate::mizdrek::{self, Refusal};
 use crate::oracle::{self, KERNELS, SIDES};
 use crate::probe::tables as ours;
 use crate::random::Random;
@@ -52,14 +52,7 @@ fn size(run: &mut Run, w: usize, h: usize) -> Outcome {
     run.case();
     same("the shifts", shifts, ours::shifts(w, h)).map_err(|d| d.of("probe_shifts", &inputs))?;
     run.case();
-    same("the answer", scale, ours::dc_tx_scale(w, h)).map_err(|d| d.of("probe_dc_tx_scale", &inputs))?;
-    #[cfg(feature = "interface")]
-    {
-        run.case();
-        same("the answer", scale, crate::mizdrek::dc_tx_scale(w, h))
-            .map_err(|d| d.of("mizdrek_dc_tx_scale", &inputs))?;
-    }
-    Ok(())
+    same("the answer", scale, mizdrek::dc_tx_scale(w, h)).map_err(|d| d.of("mizdrek_dc_tx_scale", &inputs))
 }
 
 /// A size of any magnitude, with the four sides among them.

@@ -2,8 +2,6 @@
 
 use std::sync::OnceLock;
 
-use crate::mizdrek::{Refusal, read};
-
 unsafe extern "C" {
     fn probe_dct32(table: *mut i8);
     fn probe_dct16(table: *mut i8);
@@ -13,7 +11,6 @@ unsafe extern "C" {
     fn probe_adst8(table: *mut i8);
     fn probe_adst4(table: *mut i8);
     fn probe_shifts(w: usize, h: usize) -> u32;
-    fn probe_dc_tx_scale(w: usize, h: usize) -> i64;
 }
 
 /// What a table is of, and its numbers as Mizdrek has them.
@@ -64,9 +61,4 @@ pub fn kernel(kind: u32, side: usize, f: usize, k: usize) -> i32 {
 pub fn shifts(w: usize, h: usize) -> u32 {
     // Numbers alone are passed.
     unsafe { probe_shifts(w, h) }
-}
-
-pub fn dc_tx_scale(w: usize, h: usize) -> Result<usize, Refusal> {
-    // Numbers alone are passed.
-    read(unsafe { probe_dc_tx_scale(w, h) })
 }

@@ -1,6 +1,7 @@
 // One line of a pass: the pieces that every side is made of, all of them with sums that wrap.
 ghost use mathlib.Core.Path.{_≡_};
 ghost use Prim.Native.Nat.{ℕ, _+_, _*_, _<_, _≤_};
+ghost use lib.Dec.{ltb};
 ghost use lib.ListN.{length};
 ghost use Rattle.laws.specs.Integer.{wrap32};
 ghost use Rattle.laws.specs.Store.{stores};
@@ -135,4 +136,14 @@ pub fn gather(n: usize, src: &[i32], at: usize, stride: usize, x: &mut [i32])
         x[k] = src[k * stride + at];
         k += 1;
     }
+}
+
+// Whether lines from start on end past the line count.
+pub fn ends_past(count: usize, start: usize, lines: usize) -> bool
+    ensures { λ r. ⌜ r ≡ ltb count (start + lines) ⌝ }
+{
+    if count < lines {
+        return true;
+    }
+    count - lines < start
 }

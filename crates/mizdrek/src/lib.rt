@@ -4,6 +4,7 @@ ghost use mathlib.Core.Path.{_≡_};
 ghost use lib.ListN.{length};
 ghost use Rattle.answer.specs.Answer.{signedOf};
 ghost use Rattle.sizes.specs.Size.{dcTxScale};
+ghost use Rattle.passes.specs.Answer.{passAnswer, passAfter};
 ghost use Rattle.block.specs.Answer.{blockAnswer, scratchAfter, outputAfter};
 ghost use Rattle.wht.specs.Wht.{whtAnswer, whtAfter};
 
@@ -12,6 +13,21 @@ pub extern "C" fn mizdrek_dc_tx_scale(w: usize, h: usize) -> i64
     ensures { λ r. ⌜ r ≡ signedOf (dcTxScale w h) ⌝ }
 {
     answer::signed(sizes::dc_tx_scale(w, h))
+}
+
+#[no_mangle]
+pub extern "C" fn mizdrek_pass(
+    side: usize,
+    kind: u32,
+    shift: i32,
+    lines: usize,
+    src: &[i32],
+    dst: &mut [i32],
+) -> i64
+    ensures { λ r. ⌜ r ≡ signedOf (passAnswer side kind shift lines (length (now (src .entry))) (length (now (dst .entry)))) ⌝ }
+    ensures { λ _. ⌜ now (dst .exit) ≡ passAfter side kind shift lines (now (src .entry)) (now (dst .entry)) ⌝ }
+{
+    answer::signed(passes::pass(side, kind, shift, lines, src, dst))
 }
 
 #[no_mangle]

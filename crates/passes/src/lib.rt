@@ -105,7 +105,7 @@ fn is_shift(shift: i32) -> bool
 }
 
 // A pass's answer, from its arguments alone: src and dst are the lengths of those buffers.
-fn admit(side: usize, kind: u32, shift: i32, line: usize, src: usize, dst: usize) -> Outcome
+pub fn admit(side: usize, kind: u32, shift: i32, line: usize, src: usize, dst: usize) -> Outcome
     ensures { λ r. ⌜ told r ≡ passAnswer side kind shift line src dst ⌝ }
 {
     if !(sizes::is_side(side) & (sizes::is_side(line) & is_shift(shift))) {

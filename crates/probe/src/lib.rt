@@ -1,10 +1,12 @@
-// What the comparison with the Rust looks at and the C interface leaves out: the kernel tables and the shifts.
+// What the comparison with the Rust looks at and the C interface leaves out: the kernel tables, the shifts and the lane passes.
 use answer::Outcome;
+use answer::Refusal;
 ghost use mathlib.Core.Path.{_≡_};
+ghost use lib.ListN.{length};
 ghost use Rattle.kernels.specs.Adst.{adst16, adst4, adst8};
 ghost use Rattle.kernels.specs.Dct.{dct32, dctRows};
 ghost use Rattle.answer.specs.Answer.{signedOf};
-ghost use Rattle.sizes.specs.Size.{dcTxScale};
+ghost use Rattle.probe.specs.Lanes.{lanesAnswer, lanesAfter};
 ghost use Rattle.probe.specs.Shifts.{shiftPair};
 
 #[no_mangle]
@@ -68,9 +70,28 @@ pub extern "C" fn probe_shifts(w: usize, h: usize) -> u32
     shifts.first * 16 + shifts.second
 }
 
+// The lane pass: lines lines from start on, out of line lines. It answers the number of lines.
 #[no_mangle]
-pub extern "C" fn probe_dc_tx_scale(w: usize, h: usize) -> i64
-    ensures { λ r. ⌜ r ≡ signedOf (dcTxScale w h) ⌝ }
+pub extern "C" fn probe_lanes(
+    side: usize,
+    kind: u32,
+    shift: i32,
+    line: usize,
+    start: usize,
+    lines: usize,
+    src: &[i32],
+    dst: &mut [i32],
+) -> i64
+    ensures { λ r. ⌜ r ≡ signedOf (lanesAnswer side kind shift line start lines (length (now (src .entry))) (length (now (dst .entry)))) ⌝ }
+    ensures { λ _. ⌜ now (dst .exit) ≡ lanesAfter side kind shift line start lines (now (src .entry)) (now (dst .entry)) ⌝ }
 {
-    answer::signed(sizes::dc_tx_scale(w, h))
+    let answer = passes::admit(side, kind, shift, line, src.len(), dst.len());
+    let Outcome::Done(_) = answer else {
+        return answer::signed(answer);
+    };
+    if lines::ends_past(line, start, lines) {
+        return answer::signed(Outcome::Refused(Refusal::BatchRange));
+    }
+    lanes::run(side, kind, shift as u32, line, start, lines, src, dst);
+    answer::signed(Outcome::Done(lines))
 }

@@ -4,7 +4,6 @@ use answer::Refusal;
 ghost use mathlib.Core.Path.{_≡_};
 ghost use mathlib.Core.Bool.{true, false};
 ghost use Prim.Native.Nat.{_+_, _≤_};
-ghost use lib.Dec.{ltb};
 ghost use lib.ListN.{length};
 ghost use Rattle.answer.specs.Answer.{told};
 ghost use Rattle.tickets.specs.Run.{stateAt, step};
@@ -112,22 +111,12 @@ fn out_of_order(t: Ticket, row: bool) -> bool
         | (any_from(t.rows, t.h) | (!all_marked(t.columns, t.w) & (any_from(t.rows, 0) | row)))
 }
 
-// Whether the last line lies past the line count.
-fn ends_past(count: usize, start: usize, lines: usize) -> bool
-    ensures { λ r. ⌜ r ≡ ltb count (start + lines) ⌝ }
-{
-    if count < lines {
-        return true;
-    }
-    count - lines < start
-}
-
 // Number 5's rule.
 fn out_of_range(count: usize, start: usize, lines: usize) -> bool
     ensures { λ r. ⌜ r ≡ outOfRange count start lines ⌝ }
 {
     let more = (lines == 4) | (lines == 8);
-    !((lines == 1) | more) | ((more & (start % 4 != 0)) | ends_past(count, start, lines))
+    !((lines == 1) | more) | ((more & (start % 4 != 0)) | lines::ends_past(count, start, lines))
 }
 
 // The ticket with a batch's lines marked.

@@ -1,12 +1,12 @@
--- `tickets::ends_past` meets its contract. Assumes nothing.
+-- `lines::ends_past` meets its contract. Assumes nothing.
 use mathlib.Core.Path.{sym}
 use Prim.Native.Nat.{_+_, _-_}
 use native.Mathlib.Omega.{arith}
 use borrow.Author.Tests.{lt-ltb, ltb-true}
 use lib.Dec.{ltb}
 use Rattle.laws.proofs.Bool.{same-test}
-use Rattle.tickets.proofs.ends_past.Statement.{statement}
-use Rattle.tickets.proofs.ends_past.Tie as tie
+use Rattle.lines.proofs.ends_past.Statement.{statement}
+use Rattle.lines.proofs.ends_past.Tie as tie
 
 returns : tie.Need-returns
 returns c = let a = c .before .args in sym (lt-ltb (a .count) (a .start + a .lines) (omega arith))
