@@ -12,7 +12,7 @@ use Rattle.quant.proofs.scan.name_coefficients.Statement.{statement}
 use Rattle.quant.proofs.scan.name_coefficients.Tie as tie
 
 returns : tie.Need-returns
-returns c = let a = c .before .before .args in (sym (too-long (a .width) (a .coefficients .now) (a .scan .now) (c .if1 .taken)), refl)
+returns c = let a = c .before .before .args in (sym (too-long (a .width) (a .coefficients .now) (a .scan .now) (omega arith)), refl)
 
 is-by-width-requires : tie.Need-is-by-width-requires
 is-by-width-requires c κs = search needs
