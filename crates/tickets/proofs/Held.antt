@@ -12,7 +12,6 @@ use lib.IntN.{ℤ, pos}
 use lib.ListN.{length, getD}
 use lib.Seq.{ext-getD}
 use Rattle.laws.specs.Store.{laid}
-
 use Rattle.laws.proofs.Laid.{length-tab, getD-tab, length-laid, laid-before, laid-at, laid-after}
 use Rattle.laws.proofs.Place.{split}
 use Rattle.tickets.specs.Mark.{within}
