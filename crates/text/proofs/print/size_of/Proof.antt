@@ -1,6 +1,6 @@
 -- `text::print::size_of` meets its contract. Assumes nothing.
 use borrow.Author.Needs.{needs}
-use Rattle.text.proofs.Negated.{wide-fits, minus-fits, minus-asked, plus-asked}
+use Rattle.text.proofs.Sign.{wide-fits, minus-fits, minus-asked, plus-asked}
 use Rattle.text.proofs.print.size_of.Statement.{statement}
 use Rattle.text.proofs.print.size_of.Tie as tie
 

@@ -1,14 +1,15 @@
--- A signed number of 32 bits at 64 bits, and its size. Assumes nothing.
+-- Signed numbers of 64 bits and of 32 bits: their sizes, and what they are made of. Assumes nothing.
 use mathlib.Core.Path.{_≡_, sym, ap, subst, _∙_}
 use mathlib.Core.Bool.{true, false}
-use Prim.Native.Nat.{ℕ, _<_, _^_}
+use Prim.Native.Nat.{ℕ, zero, suc, _<_, _≤_, _^_}
 use native.Mathlib.Omega.{arith}
-use lib.Dec.{T, ltb→lt}
-use lib.IntN.{ℤ, pos, negsuc, natAbs, _-ℤ_}
+use native.Mathlib.Decide.{decLt}
+use lib.Dec.{T, ltb, ltb→lt, lt→ltb}
+use lib.IntN.{ℤ, pos, negsuc, natAbs, negℤ, _-ℤ_, +ℤ-idl}
 use lib.Signed.{mag, ltZ, nonNeg}
 use mir.Syntax.{w32, w64}
 use mir.Val.{SFits, Fits, toZ, ofZ}
-use mir.Facts.{toZ-ofZ}
+use mir.Facts.{toZ-ofZ, toZ-pos}
 
 record Size (z : ℤ) : Type 0 where
   positive : T (nonNeg z)
@@ -50,3 +51,26 @@ module _ (z : ℤ) (s : SFits w32 z) where
 
   pub plus-asked : ltZ wide (pos 0) ≡ false → T (nonNeg wide) × Fits w64 (natAbs wide)
   plus-asked t = asked wide (subst Size (sym same) (plus z (ap (λ (y : ℤ). ltZ y (pos 0)) (sym same) ∙ t) (s .sfits)))
+
+-- ---- a size with a minus
+
+minus-size : (k : ℕ) → k < 10 ^ 18 → mag (negℤ (pos k)) < 2 ^ 63
+minus-size zero h = omega arith
+minus-size (suc k) h = omega arith
+
+pub minus-made : (k : ℕ) → k < 10 ^ 18 → SFits w64 (pos 0 -ℤ toZ w64 k)
+minus-made k h =
+    subst (SFits w64) (sym (ap (λ (z : ℤ). pos 0 -ℤ z) (toZ-pos w64 {n = k} (omega arith)) ∙ +ℤ-idl (negℤ (pos k))))
+    (record { sfits = minus-size k h })
+
+-- ---- a number within 32 bits
+
+not-below : (a b : ℕ) → ltb a b ≡ false → b ≤ a
+not-below a b e = elim (decLt a b) [ yes h ↦ absurd (subst T e (lt→ltb a b h)) | no h ↦ omega arith ]
+
+within : (z : ℤ) → ltZ z (negsuc 2147483647) ≡ false → ltZ (pos 2147483647) z ≡ false → mag z < 2 ^ 31
+within (pos n) low high = let h = not-below 2147483647 n high in omega arith
+within (negsuc n) low high = let h = not-below 2147483647 n low in omega arith
+
+pub narrow-fits : (z : ℤ) → ltZ z (negsuc 2147483647) ≡ false → ltZ (pos 2147483647) z ≡ false → SFits w32 z
+narrow-fits z low high = record { sfits = within z low high }
