@@ -1,7 +1,7 @@
 pub mod Bounded
 pub mod Compare
 pub mod Cut
-pub mod Faults
+pub mod Examples
 pub mod Finite
 pub mod Pattern
 pub mod Ranges

@@ -1,4 +1,4 @@
-pub mod Faults
+pub mod Examples
 pub mod Float
 pub mod Level
 pub mod Place

@@ -34,7 +34,7 @@ skip : (b : Bool) (k : ℕ) (rs : List (Bool × ℕ)) (n : ℕ) → T (isSmall (
 unfolding lowest
 skip b k rs n t = small-if b k (lowest rs n) (λ e. t)
 
-answer-small : (t : Ticket) (b : Batch) (source target : ℕ) → T (isSmall (batchAnswer t b source target))
+pub answer-small : (t : Ticket) (b : Batch) (source target : ℕ) → T (isSmall (batchAnswer t b source target))
 unfolding batchAnswer
 answer-small t b source target =
     skip _ 1 _ _ (skip _ 2 _ _ (skip _ 3 _ _

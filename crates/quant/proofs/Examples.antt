@@ -1,8 +1,8 @@
--- The definitions have neither of the two faults, by computing. Assumes nothing.
+-- The two tests hold, by computing. Assumes nothing.
 use mathlib.Core.Bool.{_&&_}
 use lib.Dec.{T}
 use lib.Ieee.{ofInt, toBits}
-use Rattle.quant.specs.Faults.{roundingRight, scanRight}
+use Rattle.quant.specs.Examples.{roundingRight, scanRight}
 use Rattle.quant.specs.Float.{roundOf}
 use Rattle.quant.specs.Scan.{byWidth, meant, placeAt}
 
