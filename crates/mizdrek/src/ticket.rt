@@ -13,6 +13,7 @@ struct Opened {
 
 // An opening's answer and ticket; where it is refused, the ticket is the one given.
 fn opening(
+    given: Ticket,
     w: usize,
     h: usize,
     column_kind: u32,
@@ -20,20 +21,19 @@ fn opening(
     residuals: &[i32],
     scratch: &[i32],
     output: &[i32],
-    given: Ticket,
 ) -> Opened
     ensures { λ r. ⌜ SignedOpening w h «column_kind» «row_kind» (now (residuals .entry)) (length (now (scratch .entry))) (length (now (output .entry))) given (r .number) (r .ticket) ⌝ }
 {
     let opened = tickets::open(w, h, column_kind, row_kind, residuals, scratch, output);
     let outcome = opened.outcome;
     let number = answer::signed(outcome);
+    let ticket = opened.ticket;
     let Outcome::Done(_) = outcome else {
         return Opened {
             ticket: given,
             number,
         };
     };
-    let ticket = opened.ticket;
     Opened { ticket, number }
 }
 
@@ -53,6 +53,7 @@ pub extern "C" fn mizdrek_open(
 {
     let given = *ticket;
     let opened = opening(
+        given,
         w,
         h,
         column_kind,
@@ -60,7 +61,6 @@ pub extern "C" fn mizdrek_open(
         residuals,
         scratch,
         output,
-        given,
     );
     *ticket = opened.ticket;
     opened.number
