@@ -1,7 +1,7 @@
 -- What an accepted batch knows of its arguments, and the two ways out of a batch: with its lines written and marked, or with
 -- everything as given. Assumes nothing.
 use mathlib.Core.Path.{_≡_, sym, ap}
-use mathlib.Core.Bool.{Bool, true, false, cond, not, _&&_, _||_}
+use mathlib.Core.Bool.{Bool, true, false, cond}
 use mathlib.Core.List.{List}
 use Prim.Native.Nat.{ℕ, _+_, _*_}
 use borrow.Author.Tests.{not-false, ltb-false}

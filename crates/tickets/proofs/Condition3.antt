@@ -1,28 +1,25 @@
 -- Condition 3: by induction on how many batches of the list have run. Assumes nothing.
 use mathlib.Core.Path.{_≡_, refl, sym, ap, _∙_}
 use mathlib.Core.Logic.{⊎-elim}
-use mathlib.Core.Bool.{Bool, true, false, not, _&&_, _||_, false≢true}
+use mathlib.Core.Bool.{Bool, true, false, not, _&&_, false≢true}
 use mathlib.Core.List.{List}
-use Prim.Native.Nat.{ℕ, zero, suc, _+_, _<_}
+use Prim.Native.Nat.{ℕ, zero, suc, _<_}
 use native.Mathlib.Omega.{arith}
 use borrow.Author.Tests.{not-false}
 use lib.IntN.{ℤ}
 use lib.ListN.{length}
-use Rattle.laws.specs.Store.{tab}
 use Rattle.laws.specs.Table.{every}
 use Rattle.laws.proofs.Bool.{both, either}
 use Rattle.laws.proofs.Every.{every-all, every-each}
 use Rattle.laws.proofs.Laid.{tab-ext}
-use Rattle.answer.specs.Answer.{Answer}
-use Rattle.block.specs.Block.{columnAt, rowAt}
 use Rattle.tickets.specs.Batch.{Batch, lineCount}
 use Rattle.tickets.specs.Open.{newTicket}
 use Rattle.tickets.specs.Run.{State, stateAt, Step, nth, step, stateAfter, run}
-use Rattle.tickets.specs.Condition3.{Condition3, covers, answerTo, accepted, covered, ticketOf, held, stateOf, settled}
+use Rattle.tickets.specs.Condition3.{Condition3, covers, answerTo, accepted, covered, ticketOf, numberAt, stateOf, settled}
 use Rattle.tickets.proofs.Mark.{within-lt, none-zero}
 use Rattle.tickets.proofs.Held.{held-none}
 use Rattle.tickets.proofs.Opened.{Opened, opened}
-use Rattle.tickets.proofs.Step.{in-range, Refuses, cases, covers-kind, step-is}
+use Rattle.tickets.proofs.Step.{in-range, cases, covers-kind, step-is}
 
 -- ---- what is covered
 
@@ -53,7 +50,8 @@ module _ (w h : ℕ) (bs : List Batch) where
   unfolding covered
   ready zero j e = absurd (false≢true e)
   ready (suc i) j e =
-      let all : every w (covered w h bs i false) ≡ true = ⊎-elim (ready i j) (λ a. not-false _ (newly i true j a .1)) (either (covered w h bs i true j) _ e) in
+      let all : every w (covered w h bs i false) ≡ true =
+      ⊎-elim (ready i j) (λ a. not-false _ (newly i true j a .1)) (either (covered w h bs i true j) _ e) in
       every-all w (covered w h bs (suc i) false) (λ k b. rw (every-each w (covered w h bs i false) all k b))
 
 -- ---- the list
@@ -71,7 +69,12 @@ module _ (w h ck rk : ℕ) (residuals scratch output : List ℤ) (o : Opened w h
 
   first-is : from ≡ at 0
   unfolding stateOf ticketOf covered
-  first-is = rw (none-zero (λ j. false) (λ j b. refl), held-none h (columnAt w h ck residuals) scratch, held-none w (rowAt w h ck rk residuals) output)
+  first-is =
+      rw (
+        none-zero (λ j. false) (λ j b. refl),
+        held-none h (numberAt w h ck rk residuals false) scratch,
+        held-none w (numberAt w h ck rk residuals true) output,
+      )
 
   state-is : (i : ℕ) → stateAfter residuals from bs i ≡ at i
   unfolding stateAfter

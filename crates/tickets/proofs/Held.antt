@@ -1,18 +1,17 @@
 -- A work buffer of which some lines hold their numbers: what stands at a place, and what writing further lines makes of it.
 -- Assumes nothing.
-use mathlib.Core.Path.{_≡_, refl, sym, ap, ap₂, _∙_}
+use mathlib.Core.Path.{_≡_, sym, ap, ap₂, _∙_}
 use mathlib.Core.Logic.{⊎-elim}
-use mathlib.Core.Bool.{Bool, true, false, cond, _||_}
+use mathlib.Core.Bool.{Bool, true, false, cond, _||_, or-true, or-false}
 use mathlib.Core.List.{List}
 use Prim.Native.Nat.{ℕ, _+_, _-_, _*_, _/_, _%_, _<_, _≤_}
 use native.Mathlib.Nat.{add-mul, div-add-mod', div-lt-iff-lt-mul, le-div-iff-mul-le, mod-lt}
 use native.Mathlib.Omega.{arith}
-use lib.Arith.{digits-lt, digits-div, digits-mod}
+use lib.Arith.{digits-div, digits-mod}
 use lib.IntN.{ℤ, pos}
 use lib.ListN.{length, getD}
 use lib.Seq.{ext-getD}
-use Rattle.laws.specs.Store.{tab, laid}
-use Rattle.laws.proofs.Bool.{or-true, or-false}
+use Rattle.laws.specs.Store.{laid}
 use Rattle.laws.proofs.Laid.{length-tab, getD-tab, length-laid, laid-before, laid-at, laid-after}
 use Rattle.laws.proofs.Place.{split}
 use Rattle.tickets.specs.Mark.{within}

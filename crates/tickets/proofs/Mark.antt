@@ -1,16 +1,16 @@
 -- Laws of marks: a mask and its lines settle each other, and what the code's operations on masks say of lines. Assumes nothing.
 use mathlib.Core.Path.{_≡_, refl, sym, ap, ap₂, _∙_}
 use mathlib.Core.Logic.{⊎-elim}
-use mathlib.Core.Bool.{Bool, true, false, cond, not, _||_}
+use mathlib.Core.Bool.{Bool, true, false, cond, not, _||_, or-true}
 use Prim.Native.Nat.{ℕ, zero, suc, _+_, _-_, _*_, _/_, _%_, _^_, _<_, _≤_}
 use native.Mathlib.Nat.{pow-suc, mul-one, one-mul, div-one, lt-of-lt-of-le}
 use native.Mathlib.Omega.{arith}
-use borrow.Author.Tests.{eq-eqb, ne-eqb, eqb-true, eqb-false, le-leb, lt-ltb, le-ltb, leb-true, ltb-true}
-use lib.Dec.{T, leb, ltb, eqb, leb·suc-suc, leb·suc-zero, leb·zero}
+use borrow.Author.Tests.{eq-eqb, ne-eqb, eqb-true, eqb-false, le-leb, lt-ltb, leb-true, ltb-true}
+use lib.Dec.{leb, ltb, eqb, leb·suc-suc, leb·suc-zero, leb·zero}
 use lib.Pow.{pow-pos, pow-mono, ones-lt, shl-exact, shl-lt, shr-shr, shr-lt}
 use lib.Bits.{bitOr, or-shr, or-mod, or-lt, shifted-even, shifted-half}
 use Rattle.laws.specs.Table.{every}
-use Rattle.laws.proofs.Bool.{both, decided, or-true, or-already, same-test}
+use Rattle.laws.proofs.Bool.{both, decided, or-already, same-test}
 use Rattle.laws.proofs.Every.{every-all, every-each, every-same}
 use Rattle.tickets.specs.Mark.{marked, maskOf, anyFrom, allMarked, within, withLines}
 

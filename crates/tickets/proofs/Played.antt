@@ -1,29 +1,27 @@
 -- A lent list of batches, played: after i turns the state is what the first i batches leave, and the first i answers are written.
 -- Assumes nothing.
 use mathlib.Core.Path.{_≡_, refl, sym, ap, ap₂, _∙_}
-use mathlib.Core.Bool.{Bool, true, false, cond, not, _||_}
+use mathlib.Core.Bool.{Bool, false, _||_}
 use mathlib.Core.Logic.{⊎-elim}
-use mathlib.Core.List.{List, [], _∷_, _++_, map, append-assoc}
-use Prim.Native.Nat.{ℕ, zero, suc, _+_, _*_, _<_, _≤_, _^_, _%_}
+use mathlib.Core.List.{List, _∷_, _++_, map}
+use Prim.Native.Nat.{ℕ, _+_, _<_, _≤_, _^_}
 use native.Mathlib.Numerals.{add-one}
 use native.Mathlib.Omega.{arith}
-use borrow.Author.Tests.{not-false, ltb-false, eqb-true}
-use lib.Dec.{T, eqb, leb, ltb}
+use borrow.Author.Tests.{ltb-false}
+use lib.Dec.{T, eqb, ltb}
 use lib.IntN.{ℤ, pos}
 use lib.ListN.{length, getD, set, drop}
-use lib.Seq.{drop-cons, set-at, append-snoc}
-use Rattle.laws.specs.Store.{stores, tab}
 use Rattle.laws.proofs.Bool.{neither, decided}
 use Rattle.laws.proofs.Front.{front, map-tab}
 use Rattle.laws.proofs.Laid.{length-tab, getD-tab}
-use Rattle.laws.proofs.Store.{Stored, stored-none, stored-turn, stored-all, stored-length}
-use Rattle.answer.specs.Answer.{Answer, answers, refuses, lowest, after, told, signedOf, isSmall}
+use Rattle.laws.proofs.Store.{Stored, stored-none, stored-turn, stored-all}
+use Rattle.answer.specs.Answer.{Answer, answers, lowest, after, told, signedOf, isSmall}
 use Rattle.answer.specs.declared.Outcome.{Outcome}
 use Rattle.answer.specs.declared.Outcome.the-variants.{Done, Refused}
 use Rattle.answer.specs.declared.Refusal.{Refusal}
 use Rattle.answer.proofs.Answer.{passed, the-answer, small-if, guarded-small}
-use Rattle.tickets.specs.Batch.{Batch, batchOf, lineCount, outOfRange, outOfOrder, batchAnswer, batch}
-use Rattle.tickets.specs.Play.{batchesOf, areKinds, playAnswer, Played, stateUnless, playedAs, played, stepGiven, playGiven, AsSettled}
+use Rattle.tickets.specs.Batch.{Batch, batchOf, lineCount, batchAnswer, batch}
+use Rattle.tickets.specs.Play.{batchesOf, playAnswer, Played, stateUnless, playedAs, played, stepGiven, playGiven, AsSettled}
 use Rattle.tickets.specs.Run.{State, stateAt, Step, Run, nth, step, stateAfter, run}
 use Rattle.tickets.specs.declared.Batched.{Batched}
 use Rattle.tickets.specs.declared.Ticket.{Ticket}
@@ -59,7 +57,8 @@ same-played : {a a' : Answer} {s s' : State} {l l' : List ℤ} → a ≡ a' → 
     → _≡_ {A = Played} (record { answer = a; state = s; answered = l }) (record { answer = a'; state = s'; answered = l' })
 same-played p q r = rw (p, q, r)
 
-done-is : (all : Run) (s : State) (room : List ℤ) (r : Batched) {a : Answer} {n : ℕ} {scratch output answered : List ℤ} → told (r .outcome) ≡ a → r .outcome ≡ Done n
+done-is : (all : Run) (s : State) (room : List ℤ) (r : Batched) {a : Answer} {n : ℕ} {scratch output answered : List ℤ}
+    → told (r .outcome) ≡ a → r .outcome ≡ Done n
     → stateAt (r .ticket) scratch output ≡ all .state → answered ≡ map signedOf (all .answers) ++ drop (length (all .answers)) room
     → playGiven r scratch output answered ≡ playedAs all a s room
 unfolding playedAs
@@ -77,7 +76,8 @@ pub record Playable (n : ℕ) (kinds : List ℕ) (starts lines room : ℕ) : Typ
   pub long-lines : n ≤ lines
   pub long-room : n ≤ room
 
-pub playable : (n : ℕ) (kinds : List ℕ) (starts lines room : ℕ) → answers n ≡ playAnswer kinds starts lines room → Playable n kinds starts lines room
+pub playable : (n : ℕ) (kinds : List ℕ) (starts lines room : ℕ) → answers n ≡ playAnswer kinds starts lines room
+    → Playable n kinds starts lines room
 unfolding playAnswer
 playable n kinds starts lines room e =
     let s2 = passed _ 2 _ _ n e in
@@ -104,7 +104,8 @@ abbrev pub writtenAt : List ℤ → State → List Batch → ℕ → ℤ
 writtenAt residuals s bs k = signedOf (step residuals (stateAfter residuals s bs k) (nth bs k) .answer)
 
 -- after i turns
-pub record Going (residuals : List ℤ) (s : State) (bs : List Batch) (room : List ℤ) (i : ℕ) (t : Ticket) (scratch output answered : List ℤ) : Type 0 where
+pub record Going (residuals : List ℤ) (s : State) (bs : List Batch) (room : List ℤ) (i : ℕ) (t : Ticket)
+    (scratch output answered : List ℤ) : Type 0 where
   pub state : stateAt t scratch output ≡ stateAfter residuals s bs i
   pub stored : Stored answered room i (λ k. k) (writtenAt residuals s bs)
 
@@ -132,7 +133,8 @@ module _ {residuals : List ℤ} {s : State} {kinds starts lines : List ℕ} {roo
       rw (ap (λ (x : Step). x .answer) turn-is)
       (step-small residuals (stateAfter residuals s (batchesOf kinds starts lines) i) (nth (batchesOf kinds starts lines) i))
 
-  pub going-on : {v : ℤ} → v ≡ signedOf (told (r .outcome)) → Going residuals s (batchesOf kinds starts lines) room (i + 1) (r .ticket) scratch' output' (set answered i v)
+  pub going-on : {v : ℤ} → v ≡ signedOf (told (r .outcome))
+      → Going residuals s (batchesOf kinds starts lines) room (i + 1) (r .ticket) scratch' output' (set answered i v)
   unfolding stateAfter
   going-on h =
       record {

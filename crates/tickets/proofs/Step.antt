@@ -1,29 +1,28 @@
 -- One batch of a list: its answer is the one settled from the lines done before it, and so is the state that it leaves.
 -- Assumes nothing.
-use mathlib.Core.Path.{_≡_, refl, sym, ap, ap₂, _∙_}
+use mathlib.Core.Path.{_≡_, refl, sym, ap, _∙_}
 use mathlib.Core.Logic.{_⊎_, inl, inr, ⊎-elim}
-use mathlib.Core.Bool.{Bool, true, false, cond, not, _&&_, _||_, Bool·beq, false≢true}
+use mathlib.Core.Bool.{Bool, true, false, cond, not, _&&_, _||_, Bool·beq, false≢true, or-false, and-false}
 use mathlib.Core.List.{List, [], _∷_}
-use Prim.Native.Nat.{ℕ, _+_, _-_, _*_, _/_, _%_, _<_, _≤_}
+use Prim.Native.Nat.{ℕ, _+_, _-_, _*_, _%_, _<_, _≤_}
 use native.Mathlib.Nat.{mul-comm, mul-le-mul-right, le-trans}
 use native.Mathlib.Omega.{arith}
 use borrow.Author.Tests.{le-ltb, ltb-false, not-false, eqb-true}
 use lib.Arith.{digits-lt}
 use lib.Dec.{eqb, ltb}
-use lib.IntN.{ℤ, pos}
-use lib.ListN.{length, getD}
+use lib.IntN.{ℤ}
+use lib.ListN.{length}
 use Rattle.laws.specs.Table.{every}
-use Rattle.laws.proofs.Bool.{both, either, neither, decided, or-false, and-false}
+use Rattle.laws.proofs.Bool.{both, either, neither, decided}
 use Rattle.laws.proofs.Every.{every-all, every-each, every-same}
 use Rattle.answer.specs.Answer.{Answer, answers, refuses, lowest, after}
 use Rattle.sizes.proofs.Side.{side-bounds}
-use Rattle.block.specs.Block.{columnAt, rowAt}
 use Rattle.block.specs.Lines.{columnLines, rowLines}
 use Rattle.block.proofs.Exact.{column-lines-exact, row-lines-exact}
 use Rattle.tickets.specs.Mark.{marked, maskOf, anyFrom, allMarked, within, withLines}
 use Rattle.tickets.specs.Batch.{Batch, lineCount, outOfRange, outOfOrder, batchAnswer, withBatch, linesOf, ticketAfter, Given, batch}
 use Rattle.tickets.specs.Run.{State, Step, columnStep, rowStep, step}
-use Rattle.tickets.specs.Condition3.{covers, answerTo, accepted, ticketOf, held, stateOf}
+use Rattle.tickets.specs.Condition3.{covers, answerTo, accepted, ticketOf, held, numberAt, stateOf}
 use Rattle.tickets.specs.declared.Ticket.{Ticket}
 use Rattle.tickets.proofs.Mark.{marked-mask, mask-same}
 use Rattle.tickets.proofs.Held.{held-length, held-line, held-same, held-more}
@@ -54,14 +53,16 @@ pub record Refuses (a : Answer) : Type 0 where
   pub is : a ≡ refuses number
 
 -- two tests: the call is accepted with neither, or refused
-either-way : (x y : Bool) (j k n : ℕ) → ((lowest ((x, j) ∷ (y, k) ∷ []) n ≡ answers n) × (x ≡ false) × (y ≡ false)) ⊎ Refuses (lowest ((x, j) ∷ (y, k) ∷ []) n)
+either-way : (x y : Bool) (j k n : ℕ)
+    → ((lowest ((x, j) ∷ (y, k) ∷ []) n ≡ answers n) × (x ≡ false) × (y ≡ false)) ⊎ Refuses (lowest ((x, j) ∷ (y, k) ∷ []) n)
 unfolding lowest
 either-way true y j k n = inr (record { number = j; is = refl })
 either-way false true j k n = inr (record { number = k; is = refl })
 either-way false false j k n = inl (refl, refl, refl)
 
 pub cases : (w h : ℕ) (p : ℕ → Bool) (b : Batch)
-    → ((answerTo w h p b ≡ answers (b .lines)) × (outOfRange (lineCount w h (b .row)) (b .start) (b .lines) ≡ false) × ((b .row && not (every w p)) ≡ false))
+    → ((answerTo w h p b ≡ answers (b .lines)) × (outOfRange (lineCount w h (b .row)) (b .start) (b .lines) ≡ false)
+    × ((b .row && not (every w p)) ≡ false))
     ⊎ Refuses (answerTo w h p b)
 unfolding answerTo
 cases w h p b = either-way (outOfRange (lineCount w h (b .row)) (b .start) (b .lines)) (b .row && not (every w p)) 5 6 (b .lines)
@@ -135,15 +136,23 @@ row-lines : (t : Ticket) (b : Batch) (source target : List ℤ) → b .row ≡ t
 unfolding linesOf
 row-lines t b source target e = rw e
 
-pub step-column : (residuals : List ℤ) (s : State) (b : Batch) → b .row ≡ false
-    → step residuals s b ≡ columnStep s (batch (s .ticket) b residuals (s .scratch))
-unfolding step
-step-column residuals s b e = ap (λ (x : Bool). cond x (rowStep s (batch (s .ticket) b (s .scratch) (s .output))) (columnStep s (batch (s .ticket) b residuals (s .scratch)))) e
+module _ (residuals : List ℤ) (s : State) (b : Batch) where
+  abbrev asRow : Given
+  asRow = batch (s .ticket) b (s .scratch) (s .output)
 
-pub step-row : (residuals : List ℤ) (s : State) (b : Batch) → b .row ≡ true
-    → step residuals s b ≡ rowStep s (batch (s .ticket) b (s .scratch) (s .output))
-unfolding step
-step-row residuals s b e = ap (λ (x : Bool). cond x (rowStep s (batch (s .ticket) b (s .scratch) (s .output))) (columnStep s (batch (s .ticket) b residuals (s .scratch)))) e
+  abbrev asColumn : Given
+  asColumn = batch (s .ticket) b residuals (s .scratch)
+
+  by-kind : {is : Bool} → b .row ≡ is
+      → step residuals s b ≡ cond is (rowStep s asRow) (columnStep s asColumn)
+  unfolding step
+  by-kind e = ap (λ (x : Bool). cond x (rowStep s asRow) (columnStep s asColumn)) e
+
+  pub step-column : b .row ≡ false → step residuals s b ≡ columnStep s asColumn
+  step-column e = by-kind e
+
+  pub step-row : b .row ≡ true → step residuals s b ≡ rowStep s asRow
+  step-row e = by-kind e
 
 given-same : {a a' : Answer} {t t' : Ticket} {d d' : List ℤ} → a ≡ a' → t ≡ t' → d ≡ d'
     → _≡_ {A = Given} (record { answer = a; ticket = t; buffer = d }) (record { answer = a'; ticket = t'; buffer = d' })
@@ -200,16 +209,6 @@ module _ (w h ck rk : ℕ) (residuals scratch output : List ℤ) (o : Opened w h
   unfolding ticketOf
   ticket-with p q e = rw (mask-same 32 (p false) (q false) (e false), mask-same 32 (p true) (q true) (e true))
 
-  state-with : (p q : Bool → ℕ → Bool) → ((row : Bool) (j : ℕ) → p row j ≡ q row j)
-      → stateOf w h ck rk residuals scratch output p ≡ stateOf w h ck rk residuals scratch output q
-  unfolding stateOf
-  state-with p q e =
-      rw (
-        ticket-with p q (λ row j l. e row j),
-        held-same h (p false) (q false) (columnAt w h ck residuals) scratch (e false),
-        held-same w (p true) (q true) (rowAt w h ck rk residuals) output (e true),
-      )
-
   marks-are : answer ≡ answers (b .lines) → withBatch t b ≡ ticketOf w h ck rk then
   unfolding withBatch ticketOf covers
   marks-are e =
@@ -248,33 +247,36 @@ module _ (w h ck rk : ℕ) (residuals scratch output : List ℤ) (o : Opened w h
 
   others : (row : Bool) → b .row ≡ not row → (j : ℕ) → done row j ≡ then row j
   others row k j =
-      sym (ap (λ (x : Bool). done row j || (accepted answer && x)) (covers-other b row j k) ∙ ap (λ (x : Bool). done row j || x) (and-false (accepted answer)) ∙ or-false (done row j))
+      sym (ap (λ (x : Bool). done row j || (accepted answer && x)) (covers-other b row j k)
+      ∙ ap (λ (x : Bool). done row j || x) (and-false (accepted answer)) ∙ or-false (done row j))
 
   -- the scratch and the output, where the lines that p names hold their numbers
   abbrev scratchOf : (ℕ → Bool) → List ℤ
-  scratchOf p = held h p (columnAt w h ck residuals) scratch
+  scratchOf p = held h p (numberAt w h ck rk residuals false) scratch
 
   abbrev outputOf : (ℕ → Bool) → List ℤ
-  outputOf p = held w p (rowAt w h ck rk residuals) output
+  outputOf p = held w p (numberAt w h ck rk residuals true) output
 
   long-scratch : w * h ≤ length (scratchOf (done false))
-  long-scratch = omega (arith, o .block .scratch-long, held-length h (done false) (columnAt w h ck residuals) scratch)
+  long-scratch = omega (arith, o .block .scratch-long, held-length h (done false) (numberAt w h ck rk residuals false) scratch)
 
   long-output : w * h ≤ length (outputOf (done true))
-  long-output = omega (arith, o .block .output-long, held-length w (done true) (rowAt w h ck rk residuals) output)
+  long-output = omega (arith, o .block .output-long, held-length w (done true) (numberAt w h ck rk residuals true) output)
 
   column-written : b .row ≡ false → answer ≡ answers (b .lines) → fitsIn → linesOf t b residuals (scratchOf (done false)) ≡ scratchOf (then false)
-  unfolding ticketOf
+  unfolding ticketOf numberAt
   column-written k e r =
       let room : b .start + b .lines ≤ w = in-range w (b .start) (b .lines) (rw k at r) .end in
       column-lines t b residuals (scratchOf (done false)) k
-      ∙ (column-lines-exact w h ck residuals (o .block .wide) (o .block .high) (o .block .column-kernel) (o .small) (b .start) (b .lines) (scratchOf (done false)) room
-      ∙ held-more h (done false) (columnAt w h ck residuals) scratch (b .start) (b .lines) (omega (arith, side-bounds h (o .block .high)))
+      ∙ (column-lines-exact w h ck residuals (o .block .wide) (o .block .high) (o .block .column-kernel) (o .small)
+      (b .start) (b .lines) (scratchOf (done false)) room
+      ∙ held-more h (done false) (numberAt w h ck rk residuals false) scratch (b .start) (b .lines) (omega (arith, side-bounds h (o .block .high)))
       (le-trans (mul-le-mul-right h room) (o .block .scratch-long))
-      ∙ held-same h _ (then false) (columnAt w h ck residuals) scratch (own false k e))
+      ∙ held-same h _ (then false) (numberAt w h ck rk residuals false) scratch (own false k e))
 
-  row-written : b .row ≡ true → answer ≡ answers (b .lines) → fitsIn → inTurn → linesOf t b (scratchOf (done false)) (outputOf (done true)) ≡ outputOf (then true)
-  unfolding ticketOf
+  row-written : b .row ≡ true → answer ≡ answers (b .lines) → fitsIn → inTurn
+      → linesOf t b (scratchOf (done false)) (outputOf (done true)) ≡ outputOf (then true)
+  unfolding ticketOf numberAt
   row-written k e r q =
       let room : b .start + b .lines ≤ h = in-range h (b .start) (b .lines) (rw k at r) .end in
       let all : every w (done false) ≡ true = not-false (every w (done false)) (rw k at q) in
@@ -282,11 +284,12 @@ module _ (w h ck rk : ℕ) (residuals scratch output : List ℤ) (o : Opened w h
       ∙ (row-lines-exact w h ck residuals (o .block .wide) (o .block .high) (o .block .column-kernel) (o .small) rk (o .block .row-kernel)
       (scratchOf (done false))
       (λ j f bj bf.
-      held-line h (done false) (columnAt w h ck residuals) scratch j f bf (omega (arith, digits-lt bj bf, o .block .scratch-long)) (every-each w (done false) all j bj))
+      held-line h (done false) (numberAt w h ck rk residuals false) scratch j f bf
+      (omega (arith, digits-lt bj bf, o .block .scratch-long)) (every-each w (done false) all j bj))
       (b .start) (b .lines) (outputOf (done true)) room
-      ∙ held-more w (done true) (rowAt w h ck rk residuals) output (b .start) (b .lines) (omega (arith, side-bounds w (o .block .wide)))
+      ∙ held-more w (done true) (numberAt w h ck rk residuals true) output (b .start) (b .lines) (omega (arith, side-bounds w (o .block .wide)))
       (le-trans (mul-le-mul-right w room) (omega (arith, mul-comm h w, o .block .output-long)))
-      ∙ held-same w _ (then true) (rowAt w h ck rk residuals) output (own true k e))
+      ∙ held-same w _ (then true) (numberAt w h ck rk residuals true) output (own true k e))
 
   abbrev before : State
   before = stateOf w h ck rk residuals scratch output done
@@ -301,9 +304,9 @@ module _ (w h ck rk : ℕ) (residuals scratch output : List ℤ) (o : Opened w h
       ∙ ap (columnStep before)
       (batch-is residuals (scratchOf (done false)) (scratchOf (then false)) (o .block .residuals-long) long-scratch
       (λ e r q. column-written k e r)
-      (λ r. held-same h (done false) (then false) (columnAt w h ck residuals) scratch (stays r false)))
+      (λ r. held-same h (done false) (then false) (numberAt w h ck rk residuals false) scratch (stays r false)))
       ∙ ap (λ (d : List ℤ). record { answer = answer; state = record { ticket = ticketOf w h ck rk then; scratch = scratchOf (then false); output = d } })
-      (held-same w (done true) (then true) (rowAt w h ck rk residuals) output (others true k))
+      (held-same w (done true) (then true) (numberAt w h ck rk residuals true) output (others true k))
 
   row-step : b .row ≡ true → step residuals before b ≡ next
   unfolding stateOf
@@ -312,9 +315,9 @@ module _ (w h ck rk : ℕ) (residuals scratch output : List ℤ) (o : Opened w h
       ∙ ap (rowStep before)
       (batch-is (scratchOf (done false)) (outputOf (done true)) (outputOf (then true)) long-scratch long-output
       (row-written k)
-      (λ r. held-same w (done true) (then true) (rowAt w h ck rk residuals) output (stays r true)))
+      (λ r. held-same w (done true) (then true) (numberAt w h ck rk residuals true) output (stays r true)))
       ∙ ap (λ (d : List ℤ). record { answer = answer; state = record { ticket = ticketOf w h ck rk then; scratch = d; output = outputOf (then true) } })
-      (held-same h (done false) (then false) (columnAt w h ck residuals) scratch (others false k))
+      (held-same h (done false) (then false) (numberAt w h ck rk residuals false) scratch (others false k))
 
   pub step-is : step residuals before b ≡ next
   step-is = ⊎-elim row-step column-step (decided (b .row))

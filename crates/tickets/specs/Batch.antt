@@ -1,5 +1,5 @@
 -- What a batch gives back: its answer, the ticket and the buffer that it writes ("Tickets", and numbers 1, 2, 3, 5 and 6).
-use mathlib.Core.Bool.{Bool, true, false, cond, not, _&&_, _||_}
+use mathlib.Core.Bool.{Bool, cond, not, _&&_, _||_}
 use mathlib.Core.List.{List, [], _∷_}
 use Prim.Native.Nat.{ℕ, _+_, _*_, _%_}
 use lib.Dec.{eqb, ltb}

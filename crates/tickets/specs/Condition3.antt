@@ -58,14 +58,18 @@ ticketOf w h ck rk done =
 unfoldable pub held : ℕ → (ℕ → Bool) → (ℕ → ℕ → ℤ) → List ℤ → List ℤ
 held n p g opening = tab (length opening) (λ q. cond (p (q / n)) (g (q / n) (q % n)) (getD opening q (pos 0)))
 
--- "column line j is the h scratch numbers from place j × h, row line j the w output numbers from place j × w"; "condition 2's numbers
--- are the first pass's for a column line, and for a row line the block's output, scaled where a block is"
+-- "condition 2's numbers are the first pass's for a column line, and for a row line the block's output, scaled where a block is"
+unfoldable pub numberAt : ℕ → ℕ → ℕ → ℕ → List ℤ → Bool → ℕ → ℕ → ℤ
+numberAt w h ck rk residuals true j f = rowAt w h ck rk residuals j f
+numberAt w h ck rk residuals false j f = columnAt w h ck residuals j f
+
+-- "column line j is the h scratch numbers from place j × h, row line j the w output numbers from place j × w"
 unfoldable pub stateOf : ℕ → ℕ → ℕ → ℕ → List ℤ → List ℤ → List ℤ → (Bool → ℕ → Bool) → State
 stateOf w h ck rk residuals scratch output done =
     record {
       ticket = ticketOf w h ck rk done;
-      scratch = held h (done false) (columnAt w h ck residuals) scratch;
-      output = held w (done true) (rowAt w h ck rk residuals) output;
+      scratch = held h (done false) (numberAt w h ck rk residuals false) scratch;
+      output = held w (done true) (numberAt w h ck rk residuals true) output;
     }
 
 -- what each batch of a list gives back, and what the list leaves

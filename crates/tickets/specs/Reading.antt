@@ -1,7 +1,7 @@
 -- Condition 3's sentence, place by place: "after the list a line is marked exactly when an accepted batch in it covers that line, every
 -- marked line holds condition 2's numbers, and every number of the two work buffers outside the marked lines is as at opening".
 use mathlib.Core.Path.{_≡_}
-use mathlib.Core.Bool.{Bool, true, false, cond}
+use mathlib.Core.Bool.{Bool, true, false}
 use mathlib.Core.List.{List}
 use Prim.Native.Nat.{ℕ, _+_, _*_, _/_, _<_}
 use lib.IntN.{ℤ, pos}

@@ -1,6 +1,6 @@
 -- A list of batches, run: "the first call gets the opening's ticket and each later one the ticket the last gave back, all are lent
 -- the block's own buffers".
-use mathlib.Core.Bool.{Bool, false, cond}
+use mathlib.Core.Bool.{false, cond}
 use mathlib.Core.List.{List}
 use Prim.Native.Nat.{ℕ, zero, suc}
 use lib.IntN.{ℤ}

@@ -1,6 +1,6 @@
 -- What an accepted call knows of its arguments. Assumes nothing.
-use mathlib.Core.Path.{_≡_, refl}
-use mathlib.Core.Bool.{Bool, true, false, not, _||_, true≢false}
+use mathlib.Core.Path.{_≡_}
+use mathlib.Core.Bool.{true, not, _||_}
 use mathlib.Core.List.{List}
 use Prim.Native.Nat.{ℕ, _≤_}
 use borrow.Author.Tests.{ltb-false, not-false}
@@ -9,16 +9,9 @@ use lib.IntN.{ℤ}
 use lib.ListN.{length}
 use Rattle.answer.specs.Answer.{answers}
 use Rattle.answer.proofs.Answer.{passed}
+use Rattle.laws.proofs.Bool.{neither}
 use Rattle.residual.specs.Residual.{residualsOk}
 use Rattle.wht.specs.Wht.{whtAnswer}
-
-pub or-left : (a b : Bool) → (a || b) ≡ false → a ≡ false
-or-left true b e = e
-or-left false b e = refl
-
-pub or-right : (a b : Bool) → (a || b) ≡ false → b ≡ false
-or-right true b e = absurd (true≢false e)
-or-right false b e = e
 
 pub record Accepted (residuals : List ℤ) (room : ℕ) : Type 0 where
   pub read : 16 ≤ length residuals
@@ -31,7 +24,7 @@ accepted residuals room n e =
     let short = passed (ltb (length residuals) 16 || ltb room 16) 3 _ 16 n e in
     let range = passed (not (residualsOk 16 residuals)) 4 _ 16 n (short .1) in
     record {
-      read = ltb-false _ _ (or-left _ _ (short .0));
-      written = ltb-false _ _ (or-right (ltb (length residuals) 16) _ (short .0));
+      read = ltb-false _ _ (neither (ltb (length residuals) 16) (ltb room 16) (short .0) .0);
+      written = ltb-false _ _ (neither (ltb (length residuals) 16) (ltb room 16) (short .0) .1);
       limit = not-false _ (range .0);
     }

@@ -1,15 +1,15 @@
 -- Two passes, each of which turns the block, are the columns and then the rows. Assumes nothing.
-use mathlib.Core.Path.{_≡_, sym, ap, _∙_}
+use mathlib.Core.Path.{_≡_, ap, _∙_}
 use mathlib.Core.Bool.{true}
 use mathlib.Core.List.{List}
 use Prim.Native.Nat.{ℕ, _+_, _*_, _/_, _%_, _^_, _≤_, _<_}
-use native.Mathlib.Nat.{add-comm, zero-add, le-trans}
+use native.Mathlib.Nat.{add-comm, le-trans}
 use native.Mathlib.Omega.{arith}
 use lib.Dec.{lit≤}
 use lib.IntN.{ℤ, pos}
 use lib.ListN.{length, getD}
 use Rattle.laws.specs.Store.{laid}
-use Rattle.laws.proofs.Laid.{laid-at}
+use Rattle.laws.proofs.Filled.{front-at}
 use Rattle.residual.specs.Residual.{residualsOk}
 use Rattle.residual.proofs.Residual.{residual-size}
 use Rattle.wht.specs.Wht.{lineOf, columns, rows, whtOf}
@@ -42,8 +42,7 @@ module _ (l m : List ℤ) (is : (k : ℕ) → k < 16 → getD m k (pos 0) ≡ tu
 
 module _ (d l : List ℤ) (room : 16 ≤ length d) where
   pub first-at : (k : ℕ) → k < 16 → getD (laid d 0 16 (turned l)) k (pos 0) ≡ turned l k
-  first-at k h =
-      ap (λ (n : ℕ). getD (laid d 0 16 (turned l)) n (pos 0)) (sym (zero-add k)) ∙ laid-at d 0 16 (turned l) room k (pos 0) h
+  first-at k h = front-at d 16 (turned l) (pos 0) room k h
 
   pub first-sized : residualsOk 16 l ≡ true → Sized (2 ^ 20) (laid d 0 16 (turned l))
   unfolding turned

@@ -1,3 +1,2 @@
-pub mod Examples
 pub mod Turned
 pub mod Wht

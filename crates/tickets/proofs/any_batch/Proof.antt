@@ -16,7 +16,8 @@ same-length-2 c = search needs
 returns : tie.Need-returns
 returns c =
     let a = c .before .before .before .before .before .args in
-    row-is (a .residuals .now) (a .scratch .now) (a .output .now) (a .ticket) (a .start) (a .lines) (c .before .row-batch .result) (c .before .before .before .before .if1 .taken) (c .before .row-batch .ensures)
+    row-is (a .residuals .now) (a .scratch .now) (a .output .now) (a .ticket) (a .start) (a .lines)
+    (c .before .row-batch .result) (c .before .before .before .before .if1 .taken) (c .before .row-batch .ensures)
 
 column-batch-requires : tie.Need-column-batch-requires
 column-batch-requires c κs = search needs
@@ -27,7 +28,8 @@ same-length-3 c = search needs
 returns-2 : tie.Need-returns-2
 returns-2 c =
     let a = c .before .before .before .before .args in
-    column-is (a .residuals .now) (a .scratch .now) (a .output .now) (a .ticket) (a .start) (a .lines) (c .before .column-batch .result) (c .before .before .before .if1 .left) (c .before .column-batch .ensures)
+    column-is (a .residuals .now) (a .scratch .now) (a .output .now) (a .ticket) (a .start) (a .lines)
+    (c .before .column-batch .result) (c .before .before .before .if1 .left) (c .before .column-batch .ensures)
 
 pub any-batch-spec : {M : Type 1} → statement M
 any-batch-spec =

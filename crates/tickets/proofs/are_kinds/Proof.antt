@@ -4,7 +4,7 @@ use mathlib.Core.Bool.{true}
 use Prim.Native.Nat.{ℕ, _-_, _<_, _≤_}
 use native.Mathlib.Omega.{arith}
 use borrow.Author.Needs.{needs}
-use borrow.Author.Count.{below-none, below-more}
+use borrow.Author.Count.{below-more}
 use borrow.Author.Tests.{le-leb, lt-leb}
 use lib.Dec.{leb}
 use lib.ListN.{length, getD}
@@ -32,7 +32,8 @@ returns : tie.Need-returns Inv-loop μ-loop
 unfolding areKinds
 returns c =
     let kinds = c .before .before .before .before .args .kinds .now in
-    sym (every-not (length kinds) (λ k. leb (getD kinds k 0) 1) (c .before .before .before .loop .i) (omega arith) (lt-leb (getD kinds (c .before .before .before .loop .i) 0) 1 (c .if1 .taken)))
+    let i = c .before .before .before .loop .i in
+    sym (every-not (length kinds) (λ k. leb (getD kinds k 0) 1) i (omega arith) (lt-leb (getD kinds i 0) 1 (c .if1 .taken)))
 
 add-i : tie.Need-add-i Inv-loop μ-loop
 add-i c = search needs
@@ -43,7 +44,8 @@ loop-less c = search needs
 loop-again : tie.Need-loop-again Inv-loop μ-loop
 loop-again c =
     let kinds = c .before .before .before .before .args .kinds .now in
-    (omega arith, below-more (λ k. leb (getD kinds k 0) 1 ≡ true) _ (c .before .before .before .loop .inv .1) (le-leb (getD kinds (c .before .before .before .loop .i) 0) 1 (c .if1 .left)))
+    let at = c .before .before .before .loop in
+    (omega arith, below-more (λ k. leb (getD kinds k 0) 1 ≡ true) _ (at .inv .1) (le-leb (getD kinds (at .i) 0) 1 (c .if1 .left)))
 
 returns-2 : tie.Need-returns-2 Inv-loop μ-loop
 unfolding areKinds

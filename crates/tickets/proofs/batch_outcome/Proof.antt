@@ -1,6 +1,7 @@
 -- `tickets::batch_outcome` meets its contract: each return goes by the tests that led there. Assumes nothing.
 use mathlib.Core.Path.{_≡_, sym, ap, ap₂, _∙_}
-use mathlib.Core.Bool.{Bool, true, false, not, _&&_}
+use mathlib.Core.Bool.{Bool, true, _&&_}
+use mathlib.Core.List.{[], _∷_}
 use Prim.Native.Nat.{ℕ}
 use native.Mathlib.Nat.{mul-le-mul}
 use native.Mathlib.Omega.{arith}
@@ -11,7 +12,7 @@ use Rattle.answer.specs.Answer.{lowest}
 use Rattle.sizes.specs.Size.{isSide}
 use Rattle.sizes.proofs.Side.{side-bounds}
 use Rattle.block.specs.Answer.{hasKinds}
-use Rattle.tickets.specs.Batch.{lineCount, outOfRange, batchAnswer}
+use Rattle.tickets.specs.Batch.{batchOf, lineCount, outOfRange, outOfOrder, batchAnswer}
 use Rattle.tickets.proofs.batch_outcome.Statement.{statement}
 use Rattle.tickets.proofs.batch_outcome.Tie as tie
 
@@ -27,10 +28,20 @@ kinds : (c : tie.Else2) → let t = c .before .before .before .before .before .a
 kinds c = sym (c .before .has-kinds .ensures) ∙ not-false _ (c .if2 .left)
 
 range-test : (c : tie.After-out-of-range) →
-    let a = c .before .before .before .before .before .before .before .before .before .args in outOfRange (lineCount (a .t .w) (a .t .h) (a .row)) (a .start) (a .lines) ≡ c .out-of-range .result
+    let a = c .before .before .before .before .before .before .before .before .before .args in
+    outOfRange (lineCount (a .t .w) (a .t .h) (a .row)) (a .start) (a .lines) ≡ c .out-of-range .result
 range-test c =
     let a = c .before .before .before .before .before .before .before .before .before .args in
     sym (c .out-of-range .ensures ∙ ap (λ (n : ℕ). outOfRange n (a .start) (a .lines)) (c .before .line-count .ensures))
+
+-- past the four tests only the last number is left
+past-range : (c : tie.Else4) →
+    let a = c .before .before .before .before .before .before .before .before .before .before .args in
+    batchAnswer (a .t) (batchOf (a .row) (a .start) (a .lines)) (a .source) (a .target) ≡ lowest ((outOfOrder (a .t) (a .row), 6) ∷ []) (a .lines)
+unfolding batchAnswer lowest
+past-range c =
+    let s = sides (c .before .before .before .before .before .before .before) in
+    rw (s .0, s .1, kinds (c .before .before .before .before .before), c .before .before .before .if3 .left, range-test (c .before) ∙ c .if4 .left)
 
 is-side-requires : tie.Need-is-side-requires
 is-side-requires c κs = search needs
@@ -72,19 +83,16 @@ returns-4 c =
     rw (s .0, s .1, kinds (c .before .before .before .before .before), c .before .before .before .if3 .left, range-test (c .before) ∙ c .if4 .taken)
 
 out-of-order-requires : tie.Need-out-of-order-requires
-out-of-order-requires c κs = let s = sides (c .before .before .before .before .before .before .before) in (side-bounds _ (s .0) .high, side-bounds _ (s .1) .high)
+out-of-order-requires c κs =
+    let s = sides (c .before .before .before .before .before .before .before) in (side-bounds _ (s .0) .high, side-bounds _ (s .1) .high)
 
 returns-5 : tie.Need-returns-5
-unfolding batchAnswer lowest
-returns-5 c =
-    let s = sides (c .before .before .before .before .before .before .before .before .before) in
-    rw (s .0, s .1, kinds (c .before .before .before .before .before .before .before), c .before .before .before .before .before .if3 .left, range-test (c .before .before .before) ∙ c .before .before .if4 .left, sym (c .before .out-of-order .ensures) ∙ c .if5 .taken)
+unfolding lowest
+returns-5 c = rw (past-range (c .before .before), sym (c .before .out-of-order .ensures) ∙ c .if5 .taken)
 
 returns-6 : tie.Need-returns-6
-unfolding batchAnswer lowest
-returns-6 c =
-    let s = sides (c .before .before .before .before .before .before .before .before .before) in
-    rw (s .0, s .1, kinds (c .before .before .before .before .before .before .before), c .before .before .before .before .before .if3 .left, range-test (c .before .before .before) ∙ c .before .before .if4 .left, sym (c .before .out-of-order .ensures) ∙ c .if5 .left)
+unfolding lowest
+returns-6 c = rw (past-range (c .before .before), sym (c .before .out-of-order .ensures) ∙ c .if5 .left)
 
 pub batch-outcome-spec : {M : Type 1} → statement M
 batch-outcome-spec =

@@ -28,7 +28,8 @@ enum-told-2 c = search needs
 returns : tie.Need-returns
 returns c =
     let a = c .before .before .before .args in
-    refused-is (a .ticket) (batchOf false (a .start) (a .lines)) (a .residuals .now) (a .scratch .now) (c .before .before .batch-outcome .ensures) (c .enum-told2 .given .1)
+    refused-is (a .ticket) (batchOf false (a .start) (a .lines)) (a .residuals .now) (a .scratch .now)
+    (c .before .before .batch-outcome .ensures) (c .enum-told2 .given .1)
 
 column-lines-requires : tie.Need-column-lines-requires
 column-lines-requires c κs =
@@ -45,8 +46,8 @@ returns-2 : tie.Need-returns-2
 unfolding linesOf
 returns-2 c =
     let a = c .before .before .before .before .before .before .before .args in
-    accepted-is (a .ticket) (batchOf false (a .start) (a .lines)) (a .residuals .now) (a .scratch .now) (c .before .before .before .before .before .before .batch-outcome .ensures)
-    (c .before .before .before .before .enum-told .given .1) (c .with-batch .ensures) (c .before .before .column-lines .ensures)
+    accepted-is (a .ticket) (batchOf false (a .start) (a .lines)) (a .residuals .now) (a .scratch .now)
+    (c .before .before .before .before .before .before .batch-outcome .ensures) (c .before .before .before .before .enum-told .given .1) (c .with-batch .ensures) (c .before .before .column-lines .ensures)
 
 pub column-batch-spec : {M : Type 1} → statement M
 column-batch-spec =

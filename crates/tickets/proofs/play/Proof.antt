@@ -11,6 +11,7 @@ use Rattle.answer.specs.Answer.{told}
 use Rattle.answer.specs.declared.Outcome.the-variants.{Done}
 use Rattle.tickets.specs.Run.{stateAt}
 use Rattle.tickets.specs.Play.{batchesOf}
+use Rattle.tickets.specs.declared.Batched.{Batched}
 use Rattle.tickets.proofs.Played.{Playable, playable, Going, going-none, Within, Turn, turn-small, going-on, going-all, not-played, as-settled}
 use Rattle.tickets.proofs.play.Statement.{statement}
 use Rattle.tickets.proofs.play.Tie as tie
@@ -49,7 +50,9 @@ turned : (c : tie.After-any-batch Inv-loop μ-loop) →
     Turn (a .residuals .now) (stateAt (a .ticket) (a .scratch .now) (a .output .now)) (a .kinds .now) (a .starts .now) (a .lines .now) (a .answered .now)
     (at .before .loop .i) (at .before .loop .current) (at .before .loop .scratch) (at .before .loop .output) (at .before .loop .answered)
     (c .any-batch .result) (c .any-batch .last .1 .1 .1 .0) (c .any-batch .last .1 .1 .1 .1 .0)
-turned c = record { going = c .before .before .before .before .before .before .before .loop .inv .1; few = in-lists (c .before .before .before .before .before .before) .in-kinds; gives = c .any-batch .ensures }
+turned c =
+    let at = c .before .before .before .before .before .before in
+    record { going = at .before .loop .inv .1; few = in-lists at .in-kinds; gives = c .any-batch .ensures }
 
 play-outcome-requires : tie.Need-play-outcome-requires Inv-loop μ-loop
 play-outcome-requires c κs = search needs
@@ -71,19 +74,19 @@ mul-any-batch : tie.Need-mul-any-batch Inv-loop μ-loop
 mul-any-batch c = omega (arith, in-lists (c))
 
 shared-slice-read-any-batch : tie.Need-shared-slice-read-any-batch Inv-loop μ-loop
-shared-slice-read-any-batch c = in-lists (c .before) .in-kinds
+shared-slice-read-any-batch c = omega (arith, in-lists (c .before))
 
 mul-any-batch-2 : tie.Need-mul-any-batch-2 Inv-loop μ-loop
 mul-any-batch-2 c = omega (arith, in-lists (c .before .before .before))
 
 shared-slice-read-any-batch-2 : tie.Need-shared-slice-read-any-batch-2 Inv-loop μ-loop
-shared-slice-read-any-batch-2 c = in-lists (c .before .before .before .before) .in-starts
+shared-slice-read-any-batch-2 c = omega (arith, in-lists (c .before .before .before .before))
 
 mul-any-batch-3 : tie.Need-mul-any-batch-3 Inv-loop μ-loop
 mul-any-batch-3 c = omega (arith, in-lists (c .before .before .before .before))
 
 shared-slice-read-any-batch-3 : tie.Need-shared-slice-read-any-batch-3 Inv-loop μ-loop
-shared-slice-read-any-batch-3 c = in-lists (c .before .before .before .before .before) .in-lines
+shared-slice-read-any-batch-3 c = omega (arith, in-lists (c .before .before .before .before .before))
 
 any-batch-requires : tie.Need-any-batch-requires Inv-loop μ-loop
 any-batch-requires c κs = search needs
@@ -124,7 +127,8 @@ same-length-3 c = stored-length (c .before .loop .inv .1 .stored)
 returns-2 : tie.Need-returns-2 Inv-loop μ-loop
 returns-2 c =
     let k = is-playable (c .before .before .before) in
-    let e = going-all _ _ _ _ _ _ (record { ticket = c .before .loop .current; outcome = Done (c .before .before .before .outcome .given .0 .0) }) (c .before .loop .inv .1) (omega arith) (omega arith)
+    let r : Batched = record { ticket = c .before .loop .current; outcome = Done (c .before .before .before .outcome .given .0 .0) } in
+    let e = going-all _ _ _ _ _ _ r (c .before .loop .inv .1) (omega arith) (omega arith)
     (sym (ap told (c .before .before .before .outcome .given .1)) ∙ c .before .before .before .before .before .play-outcome .ensures) refl in
     (e, as-settled _ _ _ _ _ _ _ _ _ e)
 

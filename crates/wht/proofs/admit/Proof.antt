@@ -3,10 +3,11 @@ use mathlib.Core.Path.{sym, ap, _∙_}
 use mathlib.Core.Bool.{not}
 use native.Mathlib.Omega.{arith}
 use borrow.Author.Tests.{ltb-false}
+use lib.Dec.{ltb}
 use lib.ListN.{length}
 use Rattle.answer.specs.Answer.{lowest}
+use Rattle.laws.proofs.Bool.{neither}
 use Rattle.wht.specs.Wht.{whtAnswer}
-use Rattle.wht.proofs.Accepted.{or-left}
 use Rattle.wht.proofs.admit.Statement.{statement}
 use Rattle.wht.proofs.admit.Tie as tie
 
@@ -16,7 +17,9 @@ returns c = rw (c .if1 .taken)
 
 residuals-ok-requires : tie.Need-residuals-ok-requires
 residuals-ok-requires c κs =
-    let l = c .before .args .residuals .now in omega (arith, ltb-false (length l) 16 (or-left _ _ (c .if1 .left)))
+    let l = length (c .before .args .residuals .now) in
+    let room = c .before .args .room in
+    omega (arith, ltb-false l 16 (neither (ltb l 16) (ltb room 16) (c .if1 .left) .0))
 
 returns-2 : tie.Need-returns-2
 unfolding whtAnswer lowest

@@ -1,0 +1,81 @@
+// Document 01's entries under "Frames on the light table" that aren't marked P, run: a line for each. Those marked P are the list of
+// specs/Examples.antt.
+use answer::Outcome;
+use quant::Settings;
+use text::print_text;
+
+// What a call gave back.
+fn print_outcome(entry: &[u8], outcome: Outcome) {
+    print_text(entry);
+    match outcome {
+        Outcome::Done(n) => {
+            print_text(b": answers ");
+            text::print_in_column(false, n as u64, 0);
+        }
+        Outcome::Refused(why) => {
+            print_text(b": refused ");
+            text::print_in_column(false, answer::number(why) as u64, 0);
+        }
+    }
+    print_text(b"\n");
+}
+
+// "32×32 DCT, all 4095: first 524160. One 4096: number 4."
+fn blocks() {
+    let mut residuals = [4095i32; 1024];
+    let mut scratch = [0i32; 1024];
+    let mut output = [0i32; 1024];
+    let all = block::block(32, 32, 0, 0, &residuals, &mut scratch, &mut output);
+    print_outcome(b"32x32 DCT, all 4095", all);
+    print_text(b"32x32 DCT, all 4095, first: ");
+    text::print_signed(output[0]);
+    print_text(b"\n");
+    residuals[1023] = 4096;
+    let one = block::block(32, 32, 0, 0, &residuals, &mut scratch, &mut output);
+    print_outcome(b"32x32 DCT, one 4096", one);
+}
+
+// A scan of one place.
+fn at_step(entry: &[u8], step: u32) {
+    let settings = Settings {
+        factor: 1.0,
+        threshold: 0.5,
+        dead_zone: 0.375,
+    };
+    let mut levels = [0.0f32; 1];
+    let mut magnitudes = [0.0f32; 1];
+    let outcome = quant::quantize_to_levels(
+        4,
+        step,
+        settings,
+        &[9i32; 16],
+        &[0u16; 1],
+        &mut levels,
+        &mut magnitudes,
+    );
+    print_outcome(entry, outcome);
+}
+
+// The first column batch of a block of w × 32.
+fn column_batch(entry: &[u8], w: usize, start: usize, lines: usize) {
+    let residuals = [1i32; 1024];
+    let mut scratch = [0i32; 1024];
+    let opened = tickets::open(w, 32, 0, 0, &residuals, &scratch, &[0i32; 1024]);
+    let ticket = opened.ticket;
+    let batched = tickets::column_batch(ticket, &residuals, &mut scratch, start, lines);
+    let outcome = batched.outcome;
+    print_outcome(entry, outcome);
+}
+
+fn main() {
+    blocks();
+    // "Step 0: number 7. Step 1: accepted."
+    at_step(b"step 0", 0);
+    at_step(b"step 1", 1);
+    // "Line count 4: one four-line batch, no eight. Start 28 with 8 of 32 lines: number 5; with 4: accepted."
+    column_batch(b"4 lines, a batch of 4 from 0", 4, 0, 4);
+    column_batch(b"4 lines, a batch of 4 from 4", 4, 4, 4);
+    column_batch(b"4 lines, a batch of 8 from 0", 4, 0, 8);
+    column_batch(b"32 lines, a batch of 8 from 28", 32, 28, 8);
+    column_batch(b"32 lines, a batch of 4 from 28", 32, 28, 4);
+}

@@ -1,0 +1,14 @@
+pub mod Bounded
+pub mod Compare
+pub mod Cut
+pub mod Examples
+pub mod Finite
+pub mod Pattern
+pub mod Ranges
+pub mod Reading
+pub mod Rounding
+pub mod Scanned
+pub mod Shifted
+pub mod Small
+pub mod Written
+pub mod Zero
