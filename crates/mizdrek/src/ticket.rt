@@ -6,6 +6,7 @@ ghost use lib.ListN.{length};
 ghost use Rattle.tickets.specs.Batch.{batchOf, batch};
 ghost use Rattle.mizdrek.specs.Ticket.{SignedBatch, SignedOpening};
 
+// What an opening gives back: its ticket, and its answer as one signed number.
 struct Opened {
     ticket: Ticket,
     number: i64,
@@ -37,6 +38,7 @@ fn opening(
     Opened { ticket, number }
 }
 
+// An opening into the caller's ticket, which stays as it was where the opening is refused.
 #[no_mangle]
 pub extern "C" fn mizdrek_open(
     w: usize,
