@@ -11,27 +11,13 @@ use std::process::Command;
 const ORACLE: [(&str, &str); 3] =
     [("ORACLE_FDCT", "fdct.rs"), ("ORACLE_WHT", "wht.rs"), ("ORACLE_QUANT", "quant.rs")];
 
-/// The features whose calls are in the archive of the C interface.
-const INTERFACE: [&str; 5] = ["BLOCKS", "TICKETS", "WHT", "QUANT", "INTERFACE"];
-
-/// The features whose calls are in the probe's archive.
-const PROBE: [&str; 2] = ["TABLES", "PASSES"];
-
 fn main() {
     let manifest = PathBuf::from(env::var_os("CARGO_MANIFEST_DIR").expect("cargo names the folder"));
     let root = manifest.join("..");
     println!("cargo:rerun-if-changed=build.rs");
     find_oracle(&root.join("../shared/docs/src"));
-    if any(&PROBE) {
-        link(&root, "probe");
-    }
-    if any(&INTERFACE) {
-        link(&root, "mizdrek");
-    }
-}
-
-fn any(features: &[&str]) -> bool {
-    features.iter().any(|name| env::var_os(format!("CARGO_FEATURE_{name}")).is_some())
+    link(&root, "probe");
+    link(&root, "mizdrek");
 }
 
 fn find_oracle(usual: &Path) {

@@ -3,7 +3,6 @@
 
 #![deny(unsafe_code)]
 // Where a group is left out, what only it uses is idle.
-#![cfg_attr(not(feature = "all"), allow(dead_code, unused_imports))]
 
 mod args;
 mod av2;

@@ -1,6 +1,4 @@
 //! What the comparison needs of Mizdrek beside its C interface.
 
-#[cfg(feature = "passes")]
 pub mod passes;
-#[cfg(feature = "tables")]
 pub mod tables;

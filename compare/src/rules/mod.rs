@@ -1,7 +1,6 @@
 //! Document 01's refusals, read from its table: what each call must answer. Each function tests in the
 //! order of the numbers, so that the lowest that applies is given.
 
-#[cfg(feature = "tickets")]
 pub mod batch;
 pub mod levels;
 pub mod transform;

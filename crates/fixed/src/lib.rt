@@ -1,5 +1,5 @@
 // Fixed-point arithmetic on signed 32 bits: sums and products that wrap, the rounding rule and the scaling rule.
-// Each wrapping helper folds to one machine instruction.
+// Each wrapping function folds to one machine instruction.
 ghost use mathlib.Core.Path.{_≡_};
 ghost use Prim.Native.Nat.{_≤_};
 ghost use lib.IntN.{_+ℤ_, _-ℤ_, _*ℤ_};

@@ -3,7 +3,7 @@
 use mathlib.Core.Path.{_≡_, refl, ap, _∙_}
 use mathlib.Core.Bool.{Bool}
 use mathlib.Core.List.{[], _∷_, List}
-use Prim.Native.Nat.{ℕ, _<_, _^_}
+use Prim.Native.Nat.{_<_, _^_}
 use lib.Dec.{T as Holds}
 use lib.IntN.{ℤ}
 use lib.ListN.{length}
@@ -16,7 +16,7 @@ use prog.Wp.{Heap, Calls, Loops, WpFn, Tables}
 use ghost.Atoms.{Atoms, sem}
 use contract.Lifetimes.{Lfts, Shares}
 use contract.Monad.{fact}
-use types.Kit.{Given, ⋆, ‵, raw, _⊛_, some, later, _$_, _∵_, !, qed, move, drop, use1, split, join, pick, suffices, frame, await, done}
+use types.Kit.{Given, ‵, raw, _⊛_, some, later, _$_, _∵_, !, qed, move, drop, use1, split, join, pick, suffices, frame, await, done}
 use types.Run.{look, init, forget, stop, hop, fld, from, load, addr, assigns, and-then, no-more, land, returns, enter, alloc1, alloc0, params1, pass1, pass0, free1, free0}
 use types.Part.{agg, whole, sub, look-in}
 use sound.WpLaws.{FmC, fmOf, WpFn-mono}

@@ -1,4 +1,4 @@
-// The C interface: numbers and slices (a pointer, then a length), nothing else. An answer is a signed 64-bit number: 0 or more for
+// The C interface: numbers, slices (a pointer, then a length) and a lent ticket. An answer is a signed 64-bit number: 0 or more for
 // an answer, minus document 01's number for a refusal. include/mizdrek.h declares these functions.
 mod levels;
 mod ticket;

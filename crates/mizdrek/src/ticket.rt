@@ -6,6 +6,7 @@ ghost use lib.ListN.{length};
 ghost use Rattle.tickets.specs.Batch.{batchOf, batch};
 ghost use Rattle.mizdrek.specs.Ticket.{SignedBatch, SignedOpening};
 
+// What an opening gives back: its ticket, and its answer as one signed number.
 struct Opened {
     ticket: Ticket,
     number: i64,
@@ -13,6 +14,7 @@ struct Opened {
 
 // An opening's answer and ticket; where it is refused, the ticket is the one given.
 fn opening(
+    given: Ticket,
     w: usize,
     h: usize,
     column_kind: u32,
@@ -20,23 +22,23 @@ fn opening(
     residuals: &[i32],
     scratch: &[i32],
     output: &[i32],
-    given: Ticket,
 ) -> Opened
     ensures { λ r. ⌜ SignedOpening w h «column_kind» «row_kind» (now (residuals .entry)) (length (now (scratch .entry))) (length (now (output .entry))) given (r .number) (r .ticket) ⌝ }
 {
     let opened = tickets::open(w, h, column_kind, row_kind, residuals, scratch, output);
     let outcome = opened.outcome;
     let number = answer::signed(outcome);
+    let ticket = opened.ticket;
     let Outcome::Done(_) = outcome else {
         return Opened {
             ticket: given,
             number,
         };
     };
-    let ticket = opened.ticket;
     Opened { ticket, number }
 }
 
+// An opening into the caller's ticket, which stays as it was where the opening is refused.
 #[no_mangle]
 pub extern "C" fn mizdrek_open(
     w: usize,
@@ -53,6 +55,7 @@ pub extern "C" fn mizdrek_open(
 {
     let given = *ticket;
     let opened = opening(
+        given,
         w,
         h,
         column_kind,
@@ -60,7 +63,6 @@ pub extern "C" fn mizdrek_open(
         residuals,
         scratch,
         output,
-        given,
     );
     *ticket = opened.ticket;
     opened.number

@@ -5,10 +5,6 @@ use Rattle.answer.proofs.Answer.{signed-given}
 use Rattle.mizdrek.proofs.Opening.{open-small, open-kept, open-stored}
 use Rattle.mizdrek.proofs.ticket.opening.Statement.{statement}
 use Rattle.mizdrek.proofs.ticket.opening.Tie as tie
-use Rattle.mizdrek.proofs.ticket.opening.Reads as reads
-use Rattle.mizdrek.proofs.ticket.opening.Lts as lts
-use Rattle.answer.proofs.signed.Reads as signed-reads
-use Rattle.tickets.proofs.open.Reads as open-reads
 
 open-requires : tie.Need-open-requires
 open-requires c κs = search needs
@@ -24,13 +20,13 @@ enum-told-2 c = search needs
 
 returns : tie.Need-returns
 returns c =
-    let op = c .before .before .before .open .ensures in
-    (search needs ∙ signed-given (op .answer) (c .before .before .signed .ensures), open-kept op (c .before .before .before .before .args .given) (c .enum-told2 .given .1))
+    let op = c .before .before .before .before .open .ensures in
+    (search needs ∙ signed-given (op .answer) (c .before .before .before .signed .ensures), open-kept op (c .before .before .before .before .before .args .given) (c .enum-told2 .given .1))
 
 returns-2 : tie.Need-returns-2
 returns-2 c =
     let op = c .before .before .before .before .open .ensures in
-    (search needs ∙ signed-given (op .answer) (c .before .before .before .signed .ensures), open-stored op (c .before .before .before .before .before .args .given) (c .before .enum-told .given .1))
+    (search needs ∙ signed-given (op .answer) (c .before .before .before .signed .ensures), open-stored op (c .before .before .before .before .before .args .given) (c .enum-told .given .1))
 
 pub opening-spec : {M : Type 1} → statement M
 opening-spec =
