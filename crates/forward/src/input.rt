@@ -62,13 +62,13 @@ pub fn read_sizes(words: &[u8]) -> Sizes
 }
 
 // Factor, threshold and dead zone.
-pub struct Card {
+pub struct Decimals {
     pub wrong: usize,
     pub values: Settings,
     pub next: usize,
 }
 
-pub fn read_settings(words: &[u8], at: usize) -> Card
+pub fn read_settings(words: &[u8], at: usize) -> Decimals
     ensures { λ r. ⌜ r .wrong ≤ 3 ⌝ }
 {
     let factor = decimal::next_decimal(words, at);
@@ -79,7 +79,7 @@ pub fn read_settings(words: &[u8], at: usize) -> Card
         threshold: threshold.value,
         dead_zone: dead_zone.value,
     };
-    Card {
+    Decimals {
         wrong: first_wrong(factor.ok, threshold.ok, dead_zone.ok),
         values,
         next: dead_zone.next,

@@ -85,9 +85,9 @@ fn run(words: &[u8]) {
         return;
     }
     let values = sizes.values;
-    let card = settings.values;
+    let quantizer = settings.values;
     let count = got.count;
-    transform(values, card, &residuals[..count]);
+    transform(values, quantizer, &residuals[..count]);
 }
 
 fn main() {
