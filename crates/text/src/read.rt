@@ -70,15 +70,27 @@ fn read_digits(text: &[u8], at: usize) -> Digits
     while i < text.len() {
         let b = text[i];
         if !is_digit(b) {
-            return Digits { ok: at < i, value, end: i };
+            return Digits {
+                ok: at < i,
+                value,
+                end: i,
+            };
         }
         if value >= 100000000000000000 {
-            return Digits { ok: false, value: 0, end: i };
+            return Digits {
+                ok: false,
+                value: 0,
+                end: i,
+            };
         }
         value = 10 * value + digit(b);
         i += 1;
     }
-    Digits { ok: at < i, value, end: i }
+    Digits {
+        ok: at < i,
+        value,
+        end: i,
+    }
 }
 
 // A word that is a whole number by its sign and size, and the place behind it, where ok.
@@ -92,7 +104,12 @@ pub struct Word {
 fn no_word() -> Word
     ensures { λ r. ⌜ r .size < 10 ^ 18 ⌝ }
 {
-    Word { ok: false, minus: false, size: 0, next: 0 }
+    Word {
+        ok: false,
+        minus: false,
+        size: 0,
+        next: 0,
+    }
 }
 
 // The word from at on.
@@ -118,7 +135,12 @@ fn signed_word(text: &[u8], at: usize, minus: bool) -> Word
 {
     let digits = read_digits(text, at);
     let ok = digits.ok & is_word_end(text, digits.end);
-    Word { ok, minus, size: digits.value, next: digits.end }
+    Word {
+        ok,
+        minus,
+        size: digits.value,
+        next: digits.end,
+    }
 }
 
 // The number that a sign and a size make.
