@@ -1,4 +1,4 @@
-//! Passes over 32 lines: by the lane pass, all at once and 8, 4 and 1 at a time, and by the plain call.
+//! Passes over 32 lines: the call, the lane pass 8, 4 and 1 lines at a time, and the plain pass.
 
 use super::timing::row;
 use crate::av2::fdct;
@@ -21,7 +21,11 @@ pub fn rows() {
             let (side, lines) = black_box((side, LINES));
             fdct::pass(kind == ADST, side, black_box(SHIFT), lines, black_box(&src), black_box(&mut theirs));
         };
-        for lanes in [32, 8, 4, 1] {
+        row(&format!("{name}{side} pass"), &mut rust, || {
+            let (side, kind, shift) = black_box((side, kind, SHIFT));
+            let _ = black_box(mizdrek::pass(side, kind, shift, LINES, black_box(&src), black_box(&mut dst)));
+        });
+        for lanes in [8, 4, 1] {
             row(&format!("{name}{side} pass, lanes of {lanes}"), &mut rust, || {
                 let (kernel, lanes) = black_box(((side, kind, SHIFT), lanes));
                 for start in (0..LINES).step_by(lanes) {
@@ -31,7 +35,7 @@ pub fn rows() {
         }
         row(&format!("{name}{side} pass, plain"), &mut rust, || {
             let (side, kind, shift) = black_box((side, kind, SHIFT));
-            let _ = black_box(mizdrek::pass(side, kind, shift, LINES, black_box(&src), black_box(&mut dst)));
+            let _ = black_box(ours::plain(side, kind, shift, LINES, black_box(&src), black_box(&mut dst)));
         });
     }
 }

@@ -1,4 +1,5 @@
-// The fast form of a pass: some lines from a start, one flat function for each side, turned when stored.
+// The fast form of a pass: some lines from a start, one flat function for each side, turned when stored. At side 8 four lines are staged
+// and stored together, so that the compiler works on all four at once.
 ghost use mathlib.Core.Path.{_≡_};
 ghost use mathlib.Core.Bool.{true};
 ghost use lib.ListN.{length};
@@ -11,7 +12,7 @@ ghost use Rattle.lines.specs.Room.{Room, LineRoom, onLine};
 
 // Line j of a DCT of side 4.
 fn dct4_line(t: &[i8; 16], line: usize, j: usize, src: &[i32], dst: &mut [i32], shift: u32)
-    requires { ⌜ LineRoom 4 line j shift (length (now src)) (length (now dst)) × (now t ≡ dctRows 4 4) ⌝ }
+    requires { ⌜ LineRoom 4 line j shift (length (now src)) j (length (now dst)) × (now t ≡ dctRows 4 4) ⌝ }
     ensures { λ _. ⌜ now (dst .exit) ≡ stores (now (dst .entry)) 4 (onLine 4 j) (passAt 0 4 shift line (now (src .entry)) j) ⌝ }
 {
     let mut o = [0i32; 4];
@@ -27,10 +28,18 @@ fn dct4_line(t: &[i8; 16], line: usize, j: usize, src: &[i32], dst: &mut [i32], 
     lines::put(4, &o, dst, j * 4);
 }
 
-// Line j of a DCT of side 8.
-fn dct8_line(t: &[i8; 64], line: usize, j: usize, src: &[i32], dst: &mut [i32], shift: u32)
-    requires { ⌜ LineRoom 8 line j shift (length (now src)) (length (now dst)) × (now t ≡ dctRows 8 8) ⌝ }
-    ensures { λ _. ⌜ now (dst .exit) ≡ stores (now (dst .entry)) 8 (onLine 8 j) (passAt 0 8 shift line (now (src .entry)) j) ⌝ }
+// Line j of a DCT of side 8, stored as line to of dst.
+fn dct8_line(
+    t: &[i8; 64],
+    line: usize,
+    j: usize,
+    src: &[i32],
+    dst: &mut [i32],
+    to: usize,
+    shift: u32,
+)
+    requires { ⌜ LineRoom 8 line j shift (length (now src)) to (length (now dst)) × (now t ≡ dctRows 8 8) ⌝ }
+    ensures { λ _. ⌜ now (dst .exit) ≡ stores (now (dst .entry)) 8 (onLine 8 to) (passAt 0 8 shift line (now (src .entry)) j) ⌝ }
 {
     let mut o = [0i32; 8];
     let mut s4 = [0i32; 4];
@@ -46,12 +55,12 @@ fn dct8_line(t: &[i8; 64], line: usize, j: usize, src: &[i32], dst: &mut [i32], 
     lines::fold(1, &s2, 0, 1, &mut s1, &mut d1);
     lines::odds(8, 1, 4, t, &d1, &mut o, shift);
     lines::zeroth(8, t, &s1, &mut o, shift);
-    lines::put(8, &o, dst, j * 8);
+    lines::put(8, &o, dst, to * 8);
 }
 
 // Line j of a DCT of side 16.
 fn dct16_line(t: &[i8; 256], line: usize, j: usize, src: &[i32], dst: &mut [i32], shift: u32)
-    requires { ⌜ LineRoom 16 line j shift (length (now src)) (length (now dst)) × (now t ≡ dctRows 16 16) ⌝ }
+    requires { ⌜ LineRoom 16 line j shift (length (now src)) j (length (now dst)) × (now t ≡ dctRows 16 16) ⌝ }
     ensures { λ _. ⌜ now (dst .exit) ≡ stores (now (dst .entry)) 16 (onLine 16 j) (passAt 0 16 shift line (now (src .entry)) j) ⌝ }
 {
     let mut o = [0i32; 16];
@@ -77,7 +86,7 @@ fn dct16_line(t: &[i8; 256], line: usize, j: usize, src: &[i32], dst: &mut [i32]
 
 // Line j of a DCT of side 32.
 fn dct32_line(t: &[i8; 1024], line: usize, j: usize, src: &[i32], dst: &mut [i32], shift: u32)
-    requires { ⌜ LineRoom 32 line j shift (length (now src)) (length (now dst)) × (now t ≡ dct32) ⌝ }
+    requires { ⌜ LineRoom 32 line j shift (length (now src)) j (length (now dst)) × (now t ≡ dct32) ⌝ }
     ensures { λ _. ⌜ now (dst .exit) ≡ stores (now (dst .entry)) 32 (onLine 32 j) (passAt 0 32 shift line (now (src .entry)) j) ⌝ }
 {
     let mut o = [0i32; 32];
@@ -122,9 +131,21 @@ pub fn fdct8_1d(shift: u32, line: usize, start: usize, count: usize, src: &[i32]
     ensures { λ _. ⌜ now (dst .exit) ≡ passLines 0 8 shift line (now (src .entry)) start count (now (dst .entry)) ⌝ }
 {
     let t = kernels::dct8();
+    let mut o = [0i32; 32];
     let mut i: usize = 0;
+    while 4 <= count - i {
+        let j = start + i;
+        let mut q: usize = 0;
+        while q < 4 {
+            dct8_line(&t, line, j + q, src, &mut o, q, shift);
+            q += 1;
+        }
+        lines::put(32, &o, dst, j * 8);
+        i += 4;
+    }
     while i < count {
-        dct8_line(&t, line, start + i, src, dst, shift);
+        let j = start + i;
+        dct8_line(&t, line, j, src, dst, j, shift);
         i += 1;
     }
 }
@@ -160,7 +181,8 @@ pub fn fadst4_1d(shift: u32, line: usize, start: usize, count: usize, src: &[i32
     let t = kernels::adst4();
     let mut i: usize = 0;
     while i < count {
-        lines::dense_line(4, &t, 4, 1, line, start + i, src, dst, shift);
+        let j = start + i;
+        lines::dense_line(4, &t, 4, 1, line, j, src, dst, j, shift);
         i += 1;
     }
 }
@@ -170,9 +192,21 @@ pub fn fadst8_1d(shift: u32, line: usize, start: usize, count: usize, src: &[i32
     ensures { λ _. ⌜ now (dst .exit) ≡ passLines 1 8 shift line (now (src .entry)) start count (now (dst .entry)) ⌝ }
 {
     let t = kernels::adst8();
+    let mut o = [0i32; 32];
     let mut i: usize = 0;
+    while 4 <= count - i {
+        let j = start + i;
+        let mut q: usize = 0;
+        while q < 4 {
+            lines::dense_line(8, &t, 1, 8, line, j + q, src, &mut o, q, shift);
+            q += 1;
+        }
+        lines::put(32, &o, dst, j * 8);
+        i += 4;
+    }
     while i < count {
-        lines::dense_line(8, &t, 1, 8, line, start + i, src, dst, shift);
+        let j = start + i;
+        lines::dense_line(8, &t, 1, 8, line, j, src, dst, j, shift);
         i += 1;
     }
 }
@@ -184,7 +218,8 @@ pub fn fadst16_1d(shift: u32, line: usize, start: usize, count: usize, src: &[i3
     let t = kernels::adst16();
     let mut i: usize = 0;
     while i < count {
-        lines::dense_line(16, &t, 16, 1, line, start + i, src, dst, shift);
+        let j = start + i;
+        lines::dense_line(16, &t, 16, 1, line, j, src, dst, j, shift);
         i += 1;
     }
 }

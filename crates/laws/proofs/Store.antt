@@ -57,6 +57,20 @@ module _ {A : Type 0} where
   unfolding grid
   lined-turn {j = j} i h = record { is = h ∙ rw (i .is, add-one j) }
 
+  -- m lines more
+  grid-more : (d : List A) (i m n : ℕ) (q : ℕ → ℕ → ℕ) (g : ℕ → ℕ → A)
+      → grid (grid d i n q g) m n (λ j. q (i + j)) (λ j. g (i + j)) ≡ grid d (i + m) n q g
+  unfolding grid
+  grid-more d i zero n q g = let e : i ≡ i + 0 = omega arith in ap (λ (k : ℕ). grid d k n q g) e
+  grid-more d i (suc m) n q g =
+      let e : suc (i + m) ≡ i + suc m = omega arith in
+      ap (λ (l : List A). stores l n (q (i + m)) (g (i + m))) (grid-more d i m n q g) ∙ ap (λ (k : ℕ). grid d k n q g) e
+
+  pub lined-more : {e d d₀ : List A} {i n : ℕ} (m : ℕ) {q : ℕ → ℕ → ℕ} {g : ℕ → ℕ → A} → Lined d d₀ i n q g
+      → e ≡ grid d m n (λ j. q (i + j)) (λ j. g (i + j)) → Lined e d₀ (i + m) n q g
+  lined-more {e} {d} {d₀} {i} {n} m {q} {g} l u =
+      record { is = u ∙ ap (λ (k : List A). grid k m n (λ j. q (i + j)) (λ j. g (i + j))) (l .is) ∙ grid-more d₀ i m n q g }
+
   pub lined-all : {d d₀ : List A} {j m n : ℕ} {q : ℕ → ℕ → ℕ} {g : ℕ → ℕ → A} → Lined d d₀ j n q g → j ≡ m → d ≡ grid d₀ m n q g
   lined-all i e = rw e at (i .is)
 

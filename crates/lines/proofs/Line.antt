@@ -2,7 +2,7 @@
 use mathlib.Core.Path.{_≡_, refl, sym, ap, _∙_}
 use mathlib.Core.List.{List}
 use Prim.Native.Nat.{ℕ, _+_, _*_, _≤_, _<_}
-use native.Mathlib.Nat.{mul-le-mul, mul-le-mul-right, add-mul, one-mul, mul-comm}
+use native.Mathlib.Nat.{mul-le-mul}
 use native.Mathlib.Omega.{arith}
 use lib.Arith.{digits-lt}
 use lib.IntN.{ℤ, pos, _*ℤ_}
@@ -21,29 +21,24 @@ use Rattle.lines.specs.Room.{LineRoom, Reading, onLine}
 plain : (f : ℕ) → place 0 1 f ≡ f
 plain f = omega arith
 
-pub dct-line : (n shift line j : ℕ) (src dst : List ℤ) {o dst' : List ℤ} → Finished n shift (lineAt src j line) o
-    → dst' ≡ stores dst n (from (j * n)) (number o)
-    → dst' ≡ stores dst n (onLine n j) (passAt 0 n shift line src j)
+pub dct-line : (n shift line j to : ℕ) (src dst : List ℤ) {o dst' : List ℤ} → Finished n shift (lineAt src j line) o
+    → dst' ≡ stores dst n (from (to * n)) (number o)
+    → dst' ≡ stores dst n (onLine n to) (passAt 0 n shift line src j)
 unfolding passAt passSum kernel dctSum
-dct-line n shift line j src dst {o} e u = u ∙ stores-ext dst n (from (j * n)) (number o) (passAt 0 n shift line src j) (e .at)
+dct-line n shift line j to src dst {o} e u = u ∙ stores-ext dst n (from (to * n)) (number o) (passAt 0 n shift line src j) (e .at)
 
--- a line ends within dst
-pub line-ends : {n line j shift ls ld : ℕ} → LineRoom n line j shift ls ld → (j * n ≤ 1024) × (j * n + n ≤ ld)
-line-ends {n} {line} {j} r =
-    let m : (j + 1) * n ≤ line * n = mul-le-mul-right n (r .room .ends) in
-    let j32 : j ≤ 32 = (let e = r .room .ends in let s = r .room .small in omega arith) in
-    let b : j * n ≤ 32 * 32 = mul-le-mul j32 (r .side) in
-    let d = r .room .dst in
-    (b, omega (arith, add-mul j 1 n, one-mul n, mul-comm line n))
+-- where it is stored
+pub line-place : {n line j shift ls to ld : ℕ} → LineRoom n line j shift ls to ld → to * n ≤ 1024
+line-place r = mul-le-mul (r .few) (r .side)
 
 -- an ADST's dense sums
 module _ (n line j shift : ℕ) (src : List ℤ) {fs ks : ℕ} {ts : List ℤ} (reading : Reading n fs ks ts) where
-  pub dense-reach : {ls ld : ℕ} → LineRoom n line j shift ls ld → InReach n 0 1 n fs ks j line (length ts) ls 16
+  pub dense-reach : {ls to ld : ℕ} → LineRoom n line j shift ls to ld → InReach n 0 1 n fs ks j line (length ts) ls 16
   dense-reach r =
       record {
         some = r .some;
         table = λ f k a b. rw (plain f) (reading .inside f k a b);
-        line = λ k a. let d = digits-lt {q = k} {m = n} {r = j} {c = line} a (let e = r .room .ends in omega arith) in let l = r .room .src in omega arith;
+        line = λ k a. let d = digits-lt {q = k} {m = n} {r = j} {c = line} a (r .inside) in let l = r .src in omega arith;
         stored = λ f a. let s = reading .small in omega arith;
       }
 
@@ -54,11 +49,11 @@ module _ (n line j shift : ℕ) (src : List ℤ) {fs ks : ℕ} {ts : List ℤ} (
       (sum-same n _ _
       (λ k b. ap (λ (z : ℤ). z *ℤ lineAt src j line k) (ap (λ (i : ℕ). getD ts (i * fs + k * ks) (pos 0)) (plain f) ∙ reading .entry f k a b)))
 
-  pub adst-line : (zeros dst : List ℤ) {o dst' : List ℤ} → n ≤ length zeros → o ≡ stores zeros n (place 0 1) (rounded shift n ts 0 1 fs ks src j line)
-      → dst' ≡ stores dst n (from (j * n)) (number o) → dst' ≡ stores dst n (onLine n j) (passAt 1 n shift line src j)
-  adst-line zeros dst {o} long e u =
+  pub adst-line : (to : ℕ) (zeros dst : List ℤ) {o dst' : List ℤ} → n ≤ length zeros → o ≡ stores zeros n (place 0 1) (rounded shift n ts 0 1 fs ks src j line)
+      → dst' ≡ stores dst n (from (to * n)) (number o) → dst' ≡ stores dst n (onLine n to) (passAt 1 n shift line src j)
+  adst-line to zeros dst {o} long e u =
       u
-      ∙ stores-ext dst n (from (j * n)) (number o) (passAt 1 n shift line src j)
+      ∙ stores-ext dst n (from (to * n)) (number o) (passAt 1 n shift line src j)
       (λ f a.
       ap (λ (l : List ℤ). getD l f (pos 0)) e
       ∙ ap (λ (i : ℕ). getD (stores zeros n (place 0 1) (rounded shift n ts 0 1 fs ks src j line)) i (pos 0)) (sym (plain f))

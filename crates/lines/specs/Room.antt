@@ -15,11 +15,16 @@ pub record Room (n line start count shift ls ld : ℕ) : Type 0 where
   pub low : 1 ≤ shift
   pub high : shift ≤ 15
 
--- line j alone, of at most 32 numbers
-pub record LineRoom (n line j shift ls ld : ℕ) : Type 0 where
+-- line j alone, of at most 32 numbers, stored as line to of dst
+pub record LineRoom (n line j shift ls to ld : ℕ) : Type 0 where
   pub some : 0 < n
   pub side : n ≤ 32
-  pub room : Room n line j 1 shift ls ld
+  pub inside : j < line
+  pub src : n * line ≤ ls
+  pub few : to ≤ 32
+  pub dst : to * n + n ≤ ld
+  pub low : 1 ≤ shift
+  pub high : shift ≤ 15
 
 -- "Output dst[j × n + f]"
 abbrev pub onLine : ℕ → ℕ → ℕ → ℕ

@@ -106,7 +106,7 @@ pub fn put(n: usize, o: &[i32], dst: &mut [i32], at: usize)
     }
 }
 
-// Line j of a transform of side n by dense sums: its table has frequency f, sample k at place f × fs + k × ks.
+// Line j of a transform of side n by dense sums, stored as line to of dst: its table has frequency f, sample k at place f × fs + k × ks.
 pub fn dense_line(
     n: usize,
     t: &[i8],
@@ -116,14 +116,15 @@ pub fn dense_line(
     j: usize,
     src: &[i32],
     dst: &mut [i32],
+    to: usize,
     shift: u32,
 )
-    requires { ⌜ LineRoom n line j shift (length (now src)) (length (now dst)) × Reading n fs ks (now t) ⌝ }
-    ensures { λ _. ⌜ now (dst .exit) ≡ stores (now (dst .entry)) n (onLine n j) (passAt 1 n shift line (now (src .entry)) j) ⌝ }
+    requires { ⌜ LineRoom n line j shift (length (now src)) to (length (now dst)) × Reading n fs ks (now t) ⌝ }
+    ensures { λ _. ⌜ now (dst .exit) ≡ stores (now (dst .entry)) n (onLine n to) (passAt 1 n shift line (now (src .entry)) j) ⌝ }
 {
     let mut o = [0i32; 16];
     frequencies(n, 0, 1, n, t, fs, ks, src, j, line, &mut o, shift);
-    put(n, &o, dst, j * n);
+    put(n, &o, dst, to * n);
 }
 
 // The n numbers of a line that begins at at and has a number every stride places, into x.

@@ -1,4 +1,4 @@
-// The plain form of a pass: a line at a time, one butterfly for every side of the DCT, and the dense ADST.
+// A pass as a call, and its plain form: a line at a time, one butterfly for every side of the DCT, and the dense ADST.
 use answer::Outcome;
 use answer::Refusal;
 ghost use mathlib.Core.Path.{_≡_};
@@ -24,7 +24,7 @@ fn dct_line(
     dst: &mut [i32],
     shift: u32,
 )
-    requires { ⌜ LineRoom n line j shift (length (now src)) (length (now dst)) × (isSide n ≡ true) × (now t ≡ dct32) ⌝ }
+    requires { ⌜ LineRoom n line j shift (length (now src)) j (length (now dst)) × (isSide n ≡ true) × (now t ≡ dct32) ⌝ }
     ensures { λ _. ⌜ now (dst .exit) ≡ stores (now (dst .entry)) n (onLine n j) (passAt 0 n shift line (now (src .entry)) j) ⌝ }
 {
     let fs = 1024 / n;
@@ -76,7 +76,7 @@ fn adst_lines(
 {
     let mut j: usize = 0;
     while j < line {
-        lines::dense_line(n, t, fs, ks, line, j, src, dst, shift);
+        lines::dense_line(n, t, fs, ks, line, j, src, dst, j, shift);
         j += 1;
     }
 }
@@ -121,8 +121,9 @@ pub fn admit(side: usize, kind: u32, shift: i32, line: usize, src: usize, dst: u
     Outcome::Done(size)
 }
 
-// One pass: line lines of side numbers each, input src[k × line + j], output dst[j × side + f].
-pub fn pass(
+// The pass's call, by the lanes where fast is asked and else by the plain form.
+fn through(
+    fast: bool,
     side: usize,
     kind: u32,
     shift: i32,
@@ -137,6 +138,41 @@ pub fn pass(
     let Outcome::Done(_) = answer else {
         return answer;
     };
-    run(side, kind, shift as u32, line, src, dst);
+    let shift = shift as u32;
+    if fast {
+        lanes::run(side, kind, shift, line, 0, line, src, dst);
+    } else {
+        run(side, kind, shift, line, src, dst);
+    }
     answer
+}
+
+// One pass: line lines of side numbers each, input src[k × line + j], output dst[j × side + f].
+pub fn pass(
+    side: usize,
+    kind: u32,
+    shift: i32,
+    line: usize,
+    src: &[i32],
+    dst: &mut [i32],
+) -> Outcome
+    ensures { λ r. ⌜ told r ≡ passAnswer side kind shift line (length (now (src .entry))) (length (now (dst .entry))) ⌝ }
+    ensures { λ _. ⌜ now (dst .exit) ≡ passAfter side kind shift line (now (src .entry)) (now (dst .entry)) ⌝ }
+{
+    through(true, side, kind, shift, line, src, dst)
+}
+
+// The same, with the one butterfly for every side.
+pub fn plain(
+    side: usize,
+    kind: u32,
+    shift: i32,
+    line: usize,
+    src: &[i32],
+    dst: &mut [i32],
+) -> Outcome
+    ensures { λ r. ⌜ told r ≡ passAnswer side kind shift line (length (now (src .entry))) (length (now (dst .entry))) ⌝ }
+    ensures { λ _. ⌜ now (dst .exit) ≡ passAfter side kind shift line (now (src .entry)) (now (dst .entry)) ⌝ }
+{
+    through(false, side, kind, shift, line, src, dst)
 }

@@ -1,4 +1,4 @@
-// What the comparison with the Rust looks at and the C interface leaves out: the kernel tables, the shifts and the lane passes.
+// What the comparison with the Rust looks at and the C interface leaves out: the kernel tables, the shifts, the plain pass and the lane passes.
 use answer::Outcome;
 use answer::Refusal;
 ghost use mathlib.Core.Path.{_≡_};
@@ -6,6 +6,7 @@ ghost use lib.ListN.{length};
 ghost use Rattle.kernels.specs.Adst.{adst16, adst4, adst8};
 ghost use Rattle.kernels.specs.Dct.{dct32, dctRows};
 ghost use Rattle.answer.specs.Answer.{signedOf};
+ghost use Rattle.passes.specs.Answer.{passAnswer, passAfter};
 ghost use Rattle.probe.specs.Lanes.{lanesAnswer, lanesAfter};
 ghost use Rattle.probe.specs.Shifts.{shiftPair};
 
@@ -68,6 +69,22 @@ pub extern "C" fn probe_shifts(w: usize, h: usize) -> u32
     }
     let shifts = sizes::fwd_shifts(w, h);
     shifts.first * 16 + shifts.second
+}
+
+// The plain pass.
+#[no_mangle]
+pub extern "C" fn probe_plain(
+    side: usize,
+    kind: u32,
+    shift: i32,
+    lines: usize,
+    src: &[i32],
+    dst: &mut [i32],
+) -> i64
+    ensures { λ r. ⌜ r ≡ signedOf (passAnswer side kind shift lines (length (now (src .entry))) (length (now (dst .entry)))) ⌝ }
+    ensures { λ _. ⌜ now (dst .exit) ≡ passAfter side kind shift lines (now (src .entry)) (now (dst .entry)) ⌝ }
+{
+    answer::signed(passes::plain(side, kind, shift, lines, src, dst))
 }
 
 // The lane pass: lines lines from start on, out of line lines. It answers the number of lines.

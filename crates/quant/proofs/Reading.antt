@@ -59,14 +59,6 @@ module _ (width : ℕ) (coefficients : List ℤ) (scan : List ℕ) where
       twice true = refl
       twice false = refl
 
-  pub not-lost-short : lost ≡ false → n ≤ 1024
-  unfolding isLost
-  not-lost-short e = go (ltb 1024 n) (ltb-false 1024 n) e
-    where
-      go : (t : Bool) → (t ≡ false → n ≤ 1024) → (t || not found) ≡ false → n ≤ 1024
-      go true f e = absurd (true≢false e)
-      go false f e = f refl
-
   -- the places as a list, and whether every one was found
   pub record Placed (places : List ℕ) (r : Bool) : Type 0 where
     pub tested : r ≡ not lost
@@ -74,7 +66,7 @@ module _ (width : ℕ) (coefficients : List ℤ) (scan : List ℕ) where
     pub gathers : (old new : List ℤ) → new ≡ laid old 0 n (λ i. getD coefficients (getD places i 0) (pos 0)) → new ≡ laid old 0 n (namedAt width coefficients scan)
 
   -- as the code has it: how places are read, how far they may reach, the places over zeros, and whether each is below the limit
-  module _ (direct : Bool) (limit : ℕ) (zeros places : List ℕ) (r : Bool) (short : n ≤ 1024) (long : 1024 ≤ length zeros)
+  module _ (direct : Bool) (limit : ℕ) (zeros places : List ℕ) (r : Bool) (short : n ≤ 1024) (long : n ≤ length zeros)
       (d : direct ≡ byWidth width scan) (is : places ≡ laid zeros 0 n (λ i. meant direct width (getD scan i 0)))
       (t : r ≡ every n (λ i. ltb (meant direct width (getD scan i 0)) limit)) where
     place-is : (i : ℕ) → i < n → getD places i 0 ≡ placeAt width scan i

@@ -82,6 +82,11 @@ module _ (k : Call) where
         let c = passed (not (settingsOk (k .settings) (k .step))) 7 _ n m (b .1) in
         from-tests (a .0) (b .0) (c .0)
 
+    -- such a call answers the scan's length
+    pub card-answers : answers n ≡ byTheCard
+    unfolding lowest
+    card-answers = sym (passed-on tests [] n m ok)
+
     rest : answer ≡ lowest more n
     unfolding scanAnswer
     rest = passed-on tests more n m ok

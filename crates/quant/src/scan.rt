@@ -12,7 +12,7 @@ ghost use lib.Dec.{T, leb, ltb};
 ghost use lib.IntN.{pos};
 ghost use lib.Ieee.Scale.{finite};
 ghost use lib.ListN.{length, getD};
-ghost use Rattle.answer.specs.Answer.{told, lowest};
+ghost use Rattle.answer.specs.Answer.{told, answers, lowest};
 ghost use Rattle.laws.specs.Store.{laid};
 ghost use Rattle.laws.specs.Table.{every};
 ghost use Rattle.quant.specs.Float.{absOf};
@@ -80,22 +80,24 @@ fn gather(n: usize, coefficients: &[i32], places: &[u16], named: &mut [i32])
     }
 }
 
-// The coefficients that the scan names, unless one of its places is lost.
-fn name_coefficients(width: usize, coefficients: &[i32], scan: &[u16], named: &mut [i32]) -> bool
-    requires { ⌜ (width ≤ 32) × (1024 ≤ length (now named)) ⌝ }
+// The coefficients that the scan names, unless one of its places is lost. Its places are put into places.
+fn name_coefficients(
+    width: usize,
+    coefficients: &[i32],
+    scan: &[u16],
+    places: &mut [u16],
+    named: &mut [i32],
+) -> bool
+    requires { ⌜ (width ≤ 32) × (length (now scan) ≤ 1024) × (length (now scan) ≤ length (now places)) × (length (now scan) ≤ length (now named)) ⌝ }
     ensures { λ r. ⌜ r ≡ not (isLost width (length (now (coefficients .entry))) (now (scan .entry))) ⌝ }
     ensures { λ r. ⌜ now (named .exit) ≡ cond r (laid (now (named .entry)) 0 (length (now (scan .entry))) (namedAt width (now (coefficients .entry)) (now (scan .entry)))) (now (named .entry)) ⌝ }
 {
-    if scan.len() > 1024 {
-        return false;
-    }
     let by_width = is_by_width(width, scan);
     let limit = reach(coefficients.len());
-    let mut places = [0u16; 1024];
-    if !find_places(by_width, width as u16, limit, scan, &mut places) {
+    if !find_places(by_width, width as u16, limit, scan, places) {
         return false;
     }
-    gather(scan.len(), coefficients, &places, named);
+    gather(scan.len(), coefficients, places, named);
     true
 }
 
@@ -153,7 +155,42 @@ fn admit(
     Outcome::Done(n)
 }
 
-// One level and one magnitude for each entry of the scan.
+// The call past those tests, with room to work in for each entry of the scan.
+fn write(
+    width: usize,
+    step: u32,
+    settings: Settings,
+    coefficients: &[i32],
+    scan: &[u16],
+    places: &mut [u16],
+    named: &mut [i32],
+    levels: &mut [f32],
+    magnitudes: &mut [f32],
+) -> Outcome
+    requires { ⌜ answers (length (now scan)) ≡ lowest (byCard width step settings (length (now scan)) (length (now levels)) (length (now magnitudes))) (length (now scan)) ⌝ }
+    requires { ⌜ (length (now scan) ≤ 1024) × (length (now scan) ≤ length (now places)) × (length (now scan) ≤ length (now named)) ⌝ }
+    ensures { λ r. ⌜ told r ≡ scanAnswer width step settings (now (coefficients .entry)) (now (scan .entry)) (length (now (levels .entry))) (length (now (magnitudes .entry))) ⌝ }
+    ensures { λ _. ⌜ now (levels .exit) ≡ levelsAfter width step settings (now (coefficients .entry)) (now (scan .entry)) (now (levels .entry)) (now (magnitudes .entry)) ⌝ }
+    ensures { λ _. ⌜ now (magnitudes .exit) ≡ magnitudesAfter width step settings (now (coefficients .entry)) (now (scan .entry)) (now (levels .entry)) (now (magnitudes .entry)) ⌝ }
+{
+    let n = scan.len();
+    if !name_coefficients(width, coefficients, scan, places, named) {
+        return Outcome::Refused(Refusal::ScanRange);
+    }
+    if !coefficients_ok(n, named) {
+        return Outcome::Refused(Refusal::CoefficientRange);
+    }
+    fill(
+        level::scale_of(settings, step),
+        n,
+        named,
+        levels,
+        magnitudes,
+    );
+    Outcome::Done(n)
+}
+
+// One level and one magnitude for each entry of the scan. A short scan has a small room to work in, which is sooner made.
 pub fn quantize_to_levels(
     width: usize,
     step: u32,
@@ -172,19 +209,35 @@ pub fn quantize_to_levels(
     let Outcome::Done(_) = answer else {
         return answer;
     };
-    let mut named = [0i32; 1024];
-    if !name_coefficients(width, coefficients, scan, &mut named) {
-        return Outcome::Refused(Refusal::ScanRange);
+    if n <= 64 {
+        let mut places = [0u16; 64];
+        let mut named = [0i32; 64];
+        return write(
+            width,
+            step,
+            settings,
+            coefficients,
+            scan,
+            &mut places,
+            &mut named,
+            levels,
+            magnitudes,
+        );
     }
-    if !coefficients_ok(n, &named) {
-        return Outcome::Refused(Refusal::CoefficientRange);
+    if n <= 1024 {
+        let mut places = [0u16; 1024];
+        let mut named = [0i32; 1024];
+        return write(
+            width,
+            step,
+            settings,
+            coefficients,
+            scan,
+            &mut places,
+            &mut named,
+            levels,
+            magnitudes,
+        );
     }
-    fill(
-        level::scale_of(settings, step),
-        n,
-        &named,
-        levels,
-        magnitudes,
-    );
-    answer
+    Outcome::Refused(Refusal::ScanRange)
 }

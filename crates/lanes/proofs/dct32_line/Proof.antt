@@ -34,7 +34,7 @@ slice-aggregate-odds-2 c = search needs
 
 odds-requires : tie.Need-odds-requires
 odds-requires c κs =
-    let r = c .before .before .before .before .before .before .before .before .pre .0 .room in
+    let r = c .before .before .before .before .before .before .before .before .pre .0 in
     let o = lit≤ tt in
     let d = subst (λ (k : ℕ). 16 ≤ k) (sym (c .before .before .before .before .before .fold .kept .1 .1 .1 .1 .1 .0)) (lit≤ tt) in
     (lit≤ tt, r .low, r .high, odds-reach 32 16 1 refl (lit< tt) (lit< tt) (lent-whole (c .before .before .before .before .before .before .before .before .pre .1)) d o)
@@ -59,7 +59,7 @@ slice-aggregate-odds-4 c = search needs
 
 odds-requires-2 : tie.Need-odds-requires-2
 odds-requires-2 c κs =
-    let r = c .before .before .before .before .before .before .before .before .before .before .before .before .before .before .before .before .before .before .before .pre .0 .room in
+    let r = c .before .before .before .before .before .before .before .before .before .before .before .before .before .before .before .before .before .before .before .pre .0 in
     let o = subst (λ (k : ℕ). 32 ≤ k) (sym (c .before .before .before .before .before .before .before .before .before .before .odds .kept .1 .1 .1 .1 .1 .0)) (lit≤ tt) in
     let d = subst (λ (k : ℕ). 8 ≤ k) (sym (c .before .before .before .before .before .fold2 .kept .1 .1 .1 .1 .1 .0)) (lit≤ tt) in
     (lit≤ tt, r .low, r .high, odds-reach 32 8 2 refl (lit< tt) (lit< tt) (lent-whole (c .before .before .before .before .before .before .before .before .before .before .before .before .before .before .before .before .before .before .before .pre .1)) d o)
@@ -84,7 +84,7 @@ slice-aggregate-odds-6 c = search needs
 
 odds-requires-3 : tie.Need-odds-requires-3
 odds-requires-3 c κs =
-    let r = c .before .before .before .before .before .before .before .before .before .before .before .before .before .before .before .before .before .before .before .before .before .before .before .before .before .before .before .before .before .before .pre .0 .room in
+    let r = c .before .before .before .before .before .before .before .before .before .before .before .before .before .before .before .before .before .before .before .before .before .before .before .before .before .before .before .before .before .before .pre .0 in
     let o = subst (λ (k : ℕ). 32 ≤ k) (sym (c .before .before .before .before .before .before .before .before .before .before .odds2 .kept .1 .1 .1 .1 .1 .0 ∙ c .before .before .before .before .before .before .before .before .before .before .before .before .before .before .before .before .before .before .before .before .before .odds .kept .1 .1 .1 .1 .1 .0)) (lit≤ tt) in
     let d = subst (λ (k : ℕ). 4 ≤ k) (sym (c .before .before .before .before .before .fold3 .kept .1 .1 .1 .1 .1 .0)) (lit≤ tt) in
     (lit≤ tt, r .low, r .high, odds-reach 32 4 4 refl (lit< tt) (lit< tt) (lent-whole (c .before .before .before .before .before .before .before .before .before .before .before .before .before .before .before .before .before .before .before .before .before .before .before .before .before .before .before .before .before .before .pre .1)) d o)
@@ -109,7 +109,7 @@ slice-aggregate-odds-8 c = search needs
 
 odds-requires-4 : tie.Need-odds-requires-4
 odds-requires-4 c κs =
-    let r = c .before .before .before .before .before .before .before .before .before .before .before .before .before .before .before .before .before .before .before .before .before .before .before .before .before .before .before .before .before .before .before .before .before .before .before .before .before .before .before .before .before .pre .0 .room in
+    let r = c .before .before .before .before .before .before .before .before .before .before .before .before .before .before .before .before .before .before .before .before .before .before .before .before .before .before .before .before .before .before .before .before .before .before .before .before .before .before .before .before .before .pre .0 in
     let o = subst (λ (k : ℕ). 32 ≤ k) (sym (c .before .before .before .before .before .before .before .before .before .before .odds3 .kept .1 .1 .1 .1 .1 .0 ∙ c .before .before .before .before .before .before .before .before .before .before .before .before .before .before .before .before .before .before .before .before .before .odds2 .kept .1 .1 .1 .1 .1 .0 ∙ c .before .before .before .before .before .before .before .before .before .before .before .before .before .before .before .before .before .before .before .before .before .before .before .before .before .before .before .before .before .before .before .before .odds .kept .1 .1 .1 .1 .1 .0)) (lit≤ tt) in
     let d = subst (λ (k : ℕ). 2 ≤ k) (sym (c .before .before .before .before .before .fold4 .kept .1 .1 .1 .1 .1 .0)) (lit≤ tt) in
     (lit≤ tt, r .low, r .high, odds-reach 32 2 8 refl (lit< tt) (lit< tt) (lent-whole (c .before .before .before .before .before .before .before .before .before .before .before .before .before .before .before .before .before .before .before .before .before .before .before .before .before .before .before .before .before .before .before .before .before .before .before .before .before .before .before .before .before .pre .1)) d o)
@@ -134,7 +134,7 @@ slice-aggregate-odds-10 c = search needs
 
 odds-requires-5 : tie.Need-odds-requires-5
 odds-requires-5 c κs =
-    let r = c .before .before .before .before .before .before .before .before .before .before .before .before .before .before .before .before .before .before .before .before .before .before .before .before .before .before .before .before .before .before .before .before .before .before .before .before .before .before .before .before .before .before .before .before .before .before .before .before .before .before .before .before .pre .0 .room in
+    let r = c .before .before .before .before .before .before .before .before .before .before .before .before .before .before .before .before .before .before .before .before .before .before .before .before .before .before .before .before .before .before .before .before .before .before .before .before .before .before .before .before .before .before .before .before .before .before .before .before .before .before .before .before .pre .0 in
     let o = subst (λ (k : ℕ). 32 ≤ k) (sym (c .before .before .before .before .before .before .before .before .before .before .odds4 .kept .1 .1 .1 .1 .1 .0 ∙ c .before .before .before .before .before .before .before .before .before .before .before .before .before .before .before .before .before .before .before .before .before .odds3 .kept .1 .1 .1 .1 .1 .0 ∙ c .before .before .before .before .before .before .before .before .before .before .before .before .before .before .before .before .before .before .before .before .before .before .before .before .before .before .before .before .before .before .before .before .odds2 .kept .1 .1 .1 .1 .1 .0 ∙ c .before .before .before .before .before .before .before .before .before .before .before .before .before .before .before .before .before .before .before .before .before .before .before .before .before .before .before .before .before .before .before .before .before .before .before .before .before .before .before .before .before .before .before .odds .kept .1 .1 .1 .1 .1 .0)) (lit≤ tt) in
     let d = subst (λ (k : ℕ). 1 ≤ k) (sym (c .before .before .before .before .before .fold5 .kept .1 .1 .1 .1 .1 .0)) (lit≤ tt) in
     (lit≤ tt, r .low, r .high, odds-reach 32 1 16 refl (lit< tt) (lit< tt) (lent-whole (c .before .before .before .before .before .before .before .before .before .before .before .before .before .before .before .before .before .before .before .before .before .before .before .before .before .before .before .before .before .before .before .before .before .before .before .before .before .before .before .before .before .before .before .before .before .before .before .before .before .before .before .before .pre .1)) d o)
@@ -147,7 +147,7 @@ slice-aggregate-zeroth-2 c = search needs
 
 zeroth-requires : tie.Need-zeroth-requires
 zeroth-requires c κs =
-    let r = c .before .before .before .before .before .before .before .before .before .before .before .before .before .before .before .before .before .before .before .before .before .before .before .before .before .before .before .before .before .before .before .before .before .before .before .before .before .before .before .before .before .before .before .before .before .before .before .before .before .before .before .before .before .before .before .before .before .pre .0 .room in
+    let r = c .before .before .before .before .before .before .before .before .before .before .before .before .before .before .before .before .before .before .before .before .before .before .before .before .before .before .before .before .before .before .before .before .before .before .before .before .before .before .before .before .before .before .before .before .before .before .before .before .before .before .before .before .before .before .before .before .before .pre .0 in
     let t = lent-whole (c .before .before .before .before .before .before .before .before .before .before .before .before .before .before .before .before .before .before .before .before .before .before .before .before .before .before .before .before .before .before .before .before .before .before .before .before .before .before .before .before .before .before .before .before .before .before .before .before .before .before .before .before .before .before .before .before .before .pre .1) .inside 0 0 (lit< tt) (lit< tt) in
     let o = subst (λ (k : ℕ). 32 ≤ k) (sym (c .before .before .before .before .odds5 .kept .1 .1 .1 .1 .1 .0 ∙ c .before .before .before .before .before .before .before .before .before .before .before .before .before .before .before .odds4 .kept .1 .1 .1 .1 .1 .0 ∙ c .before .before .before .before .before .before .before .before .before .before .before .before .before .before .before .before .before .before .before .before .before .before .before .before .before .before .odds3 .kept .1 .1 .1 .1 .1 .0 ∙ c .before .before .before .before .before .before .before .before .before .before .before .before .before .before .before .before .before .before .before .before .before .before .before .before .before .before .before .before .before .before .before .before .before .before .before .before .before .odds2 .kept .1 .1 .1 .1 .1 .0 ∙ c .before .before .before .before .before .before .before .before .before .before .before .before .before .before .before .before .before .before .before .before .before .before .before .before .before .before .before .before .before .before .before .before .before .before .before .before .before .before .before .before .before .before .before .before .before .before .before .before .odds .kept .1 .1 .1 .1 .1 .0)) (lit≤ tt) in
     let s = subst (λ (k : ℕ). 1 ≤ k) (sym (c .before .before .before .before .before .before .before .before .before .before .fold5 .kept .1 .1 .1 .1 .0)) (lit≤ tt) in
@@ -157,11 +157,11 @@ slice-aggregate-put : tie.Need-slice-aggregate-put
 slice-aggregate-put c = search needs
 
 mul-put : tie.Need-mul-put
-mul-put c = let r = c .before .before .before .before .before .before .before .before .before .before .before .before .before .before .before .before .before .before .before .before .before .before .before .before .before .before .before .before .before .before .before .before .before .before .before .before .before .before .before .before .before .before .before .before .before .before .before .before .before .before .before .before .before .before .before .before .before .before .before .before .before .pre .0 .room in omega arith
+mul-put c = let r = c .before .before .before .before .before .before .before .before .before .before .before .before .before .before .before .before .before .before .before .before .before .before .before .before .before .before .before .before .before .before .before .before .before .before .before .before .before .before .before .before .before .before .before .before .before .before .before .before .before .before .before .before .before .before .before .before .before .before .before .before .before .pre .0 in omega arith
 
 put-requires : tie.Need-put-requires
 put-requires c κs =
-    let r = c .before .before .before .before .before .before .before .before .before .before .before .before .before .before .before .before .before .before .before .before .before .before .before .before .before .before .before .before .before .before .before .before .before .before .before .before .before .before .before .before .before .before .before .before .before .before .before .before .before .before .before .before .before .before .before .before .before .before .before .before .before .pre .0 .room in
+    let r = c .before .before .before .before .before .before .before .before .before .before .before .before .before .before .before .before .before .before .before .before .before .before .before .before .before .before .before .before .before .before .before .before .before .before .before .before .before .before .before .before .before .before .before .before .before .before .before .before .before .before .before .before .before .before .before .before .before .before .before .before .before .pre .0 in
     (subst (λ (k : ℕ). 32 ≤ k) (sym (c .before .before .before .zeroth .kept .1 .1 .1 .0 ∙ c .before .before .before .before .before .before .before .before .odds5 .kept .1 .1 .1 .1 .1 .0 ∙ c .before .before .before .before .before .before .before .before .before .before .before .before .before .before .before .before .before .before .before .odds4 .kept .1 .1 .1 .1 .1 .0 ∙ c .before .before .before .before .before .before .before .before .before .before .before .before .before .before .before .before .before .before .before .before .before .before .before .before .before .before .before .before .before .before .odds3 .kept .1 .1 .1 .1 .1 .0 ∙ c .before .before .before .before .before .before .before .before .before .before .before .before .before .before .before .before .before .before .before .before .before .before .before .before .before .before .before .before .before .before .before .before .before .before .before .before .before .before .before .before .before .odds2 .kept .1 .1 .1 .1 .1 .0 ∙ c .before .before .before .before .before .before .before .before .before .before .before .before .before .before .before .before .before .before .before .before .before .before .before .before .before .before .before .before .before .before .before .before .before .before .before .before .before .before .before .before .before .before .before .before .before .before .before .before .before .before .before .before .odds .kept .1 .1 .1 .1 .1 .0)) (lit≤ tt), omega arith)
 
 same-length : tie.Need-same-length
@@ -177,7 +177,7 @@ returns c =
     let p3 = stage 32 4 4 refl (lit< tt) (mirror 2 (lit< tt)) k p2 (c .before .before .before .before .before .before .before .before .before .before .before .before .before .before .before .before .before .before .before .before .before .before .before .before .before .before .before .before .before .before .before .before .before .before .before .before .before .before .fold3 .ensures) (c .before .before .before .before .before .before .before .before .before .before .before .before .before .before .before .before .before .before .before .before .before .before .before .before .before .before .before .before .before .before .before .before .odds3 .ensures) in
     let p4 = stage 32 2 8 refl (lit< tt) (mirror 1 (lit< tt)) k p3 (c .before .before .before .before .before .before .before .before .before .before .before .before .before .before .before .before .before .before .before .before .before .before .before .before .before .before .before .fold4 .ensures) (c .before .before .before .before .before .before .before .before .before .before .before .before .before .before .before .before .before .before .before .before .before .odds4 .ensures) in
     let p5 = stage 32 1 16 refl (lit< tt) (mirror 0 (lit< tt)) k p4 (c .before .before .before .before .before .before .before .before .before .before .before .before .before .before .before .before .fold5 .ensures) (c .before .before .before .before .before .before .before .before .before .before .odds5 .ensures) in
-    dct-line 32 (a .shift) (a .line) (a .j) (a .src .now) (a .dst .now) (finish 32 (lit< tt) k p5 (c .before .before .before .before .before .zeroth .ensures)) (c .before .put .ensures)
+    dct-line 32 (a .shift) (a .line) (a .j) (a .j) (a .src .now) (a .dst .now) (finish 32 (lit< tt) k p5 (c .before .before .before .before .before .zeroth .ensures)) (c .before .put .ensures)
 
 pub dct32-line-spec : {M : Type 1} → statement M
 dct32-line-spec =

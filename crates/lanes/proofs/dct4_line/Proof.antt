@@ -34,7 +34,7 @@ slice-aggregate-odds-2 c = search needs
 
 odds-requires : tie.Need-odds-requires
 odds-requires c κs =
-    let r = c .before .before .before .before .before .before .before .before .pre .0 .room in
+    let r = c .before .before .before .before .before .before .before .before .pre .0 in
     let o = lit≤ tt in
     let d = subst (λ (k : ℕ). 2 ≤ k) (sym (c .before .before .before .before .before .fold .kept .1 .1 .1 .1 .1 .0)) (lit≤ tt) in
     (lit≤ tt, r .low, r .high, odds-reach 4 2 1 refl (lit< tt) (lit< tt) (lent-rows 4 (lit< tt) (lit≤ tt) (c .before .before .before .before .before .before .before .before .pre .1)) d o)
@@ -59,7 +59,7 @@ slice-aggregate-odds-4 c = search needs
 
 odds-requires-2 : tie.Need-odds-requires-2
 odds-requires-2 c κs =
-    let r = c .before .before .before .before .before .before .before .before .before .before .before .before .before .before .before .before .before .before .before .pre .0 .room in
+    let r = c .before .before .before .before .before .before .before .before .before .before .before .before .before .before .before .before .before .before .before .pre .0 in
     let o = subst (λ (k : ℕ). 4 ≤ k) (sym (c .before .before .before .before .before .before .before .before .before .before .odds .kept .1 .1 .1 .1 .1 .0)) (lit≤ tt) in
     let d = subst (λ (k : ℕ). 1 ≤ k) (sym (c .before .before .before .before .before .fold2 .kept .1 .1 .1 .1 .1 .0)) (lit≤ tt) in
     (lit≤ tt, r .low, r .high, odds-reach 4 1 2 refl (lit< tt) (lit< tt) (lent-rows 4 (lit< tt) (lit≤ tt) (c .before .before .before .before .before .before .before .before .before .before .before .before .before .before .before .before .before .before .before .pre .1)) d o)
@@ -72,7 +72,7 @@ slice-aggregate-zeroth-2 c = search needs
 
 zeroth-requires : tie.Need-zeroth-requires
 zeroth-requires c κs =
-    let r = c .before .before .before .before .before .before .before .before .before .before .before .before .before .before .before .before .before .before .before .before .before .before .before .before .pre .0 .room in
+    let r = c .before .before .before .before .before .before .before .before .before .before .before .before .before .before .before .before .before .before .before .before .before .before .before .before .pre .0 in
     let t = lent-rows 4 (lit< tt) (lit≤ tt) (c .before .before .before .before .before .before .before .before .before .before .before .before .before .before .before .before .before .before .before .before .before .before .before .before .pre .1) .inside 0 0 (lit< tt) (lit< tt) in
     let o = subst (λ (k : ℕ). 4 ≤ k) (sym (c .before .before .before .before .odds2 .kept .1 .1 .1 .1 .1 .0 ∙ c .before .before .before .before .before .before .before .before .before .before .before .before .before .before .before .odds .kept .1 .1 .1 .1 .1 .0)) (lit≤ tt) in
     let s = subst (λ (k : ℕ). 1 ≤ k) (sym (c .before .before .before .before .before .before .before .before .before .before .fold2 .kept .1 .1 .1 .1 .0)) (lit≤ tt) in
@@ -82,11 +82,11 @@ slice-aggregate-put : tie.Need-slice-aggregate-put
 slice-aggregate-put c = search needs
 
 mul-put : tie.Need-mul-put
-mul-put c = let r = c .before .before .before .before .before .before .before .before .before .before .before .before .before .before .before .before .before .before .before .before .before .before .before .before .before .before .before .before .pre .0 .room in omega arith
+mul-put c = let r = c .before .before .before .before .before .before .before .before .before .before .before .before .before .before .before .before .before .before .before .before .before .before .before .before .before .before .before .before .pre .0 in omega arith
 
 put-requires : tie.Need-put-requires
 put-requires c κs =
-    let r = c .before .before .before .before .before .before .before .before .before .before .before .before .before .before .before .before .before .before .before .before .before .before .before .before .before .before .before .before .pre .0 .room in
+    let r = c .before .before .before .before .before .before .before .before .before .before .before .before .before .before .before .before .before .before .before .before .before .before .before .before .before .before .before .before .pre .0 in
     (subst (λ (k : ℕ). 4 ≤ k) (sym (c .before .before .before .zeroth .kept .1 .1 .1 .0 ∙ c .before .before .before .before .before .before .before .before .odds2 .kept .1 .1 .1 .1 .1 .0 ∙ c .before .before .before .before .before .before .before .before .before .before .before .before .before .before .before .before .before .before .before .odds .kept .1 .1 .1 .1 .1 .0)) (lit≤ tt), omega arith)
 
 same-length : tie.Need-same-length
@@ -99,7 +99,7 @@ returns c =
     let p0 = begin 4 (a .shift) (a .src .now) (a .j) (a .line) zeros (lit≤ tt) in
     let p1 = stage 4 2 1 refl (lit< tt) (mirror 1 (lit< tt)) k p0 (c .before .before .before .before .before .before .before .before .before .before .before .before .before .before .before .before .before .before .before .before .before .before .before .before .before .before .before .fold .ensures) (c .before .before .before .before .before .before .before .before .before .before .before .before .before .before .before .before .before .before .before .before .before .odds .ensures) in
     let p2 = stage 4 1 2 refl (lit< tt) (mirror 0 (lit< tt)) k p1 (c .before .before .before .before .before .before .before .before .before .before .before .before .before .before .before .before .fold2 .ensures) (c .before .before .before .before .before .before .before .before .before .before .odds2 .ensures) in
-    dct-line 4 (a .shift) (a .line) (a .j) (a .src .now) (a .dst .now) (finish 4 (lit< tt) k p2 (c .before .before .before .before .before .zeroth .ensures)) (c .before .put .ensures)
+    dct-line 4 (a .shift) (a .line) (a .j) (a .j) (a .src .now) (a .dst .now) (finish 4 (lit< tt) k p2 (c .before .before .before .before .before .zeroth .ensures)) (c .before .put .ensures)
 
 pub dct4-line-spec : {M : Type 1} → statement M
 dct4-line-spec =

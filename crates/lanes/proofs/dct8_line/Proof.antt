@@ -34,7 +34,7 @@ slice-aggregate-odds-2 c = search needs
 
 odds-requires : tie.Need-odds-requires
 odds-requires c κs =
-    let r = c .before .before .before .before .before .before .before .before .pre .0 .room in
+    let r = c .before .before .before .before .before .before .before .before .pre .0 in
     let o = lit≤ tt in
     let d = subst (λ (k : ℕ). 4 ≤ k) (sym (c .before .before .before .before .before .fold .kept .1 .1 .1 .1 .1 .0)) (lit≤ tt) in
     (lit≤ tt, r .low, r .high, odds-reach 8 4 1 refl (lit< tt) (lit< tt) (lent-rows 8 (lit< tt) (lit≤ tt) (c .before .before .before .before .before .before .before .before .pre .1)) d o)
@@ -59,7 +59,7 @@ slice-aggregate-odds-4 c = search needs
 
 odds-requires-2 : tie.Need-odds-requires-2
 odds-requires-2 c κs =
-    let r = c .before .before .before .before .before .before .before .before .before .before .before .before .before .before .before .before .before .before .before .pre .0 .room in
+    let r = c .before .before .before .before .before .before .before .before .before .before .before .before .before .before .before .before .before .before .before .pre .0 in
     let o = subst (λ (k : ℕ). 8 ≤ k) (sym (c .before .before .before .before .before .before .before .before .before .before .odds .kept .1 .1 .1 .1 .1 .0)) (lit≤ tt) in
     let d = subst (λ (k : ℕ). 2 ≤ k) (sym (c .before .before .before .before .before .fold2 .kept .1 .1 .1 .1 .1 .0)) (lit≤ tt) in
     (lit≤ tt, r .low, r .high, odds-reach 8 2 2 refl (lit< tt) (lit< tt) (lent-rows 8 (lit< tt) (lit≤ tt) (c .before .before .before .before .before .before .before .before .before .before .before .before .before .before .before .before .before .before .before .pre .1)) d o)
@@ -84,7 +84,7 @@ slice-aggregate-odds-6 c = search needs
 
 odds-requires-3 : tie.Need-odds-requires-3
 odds-requires-3 c κs =
-    let r = c .before .before .before .before .before .before .before .before .before .before .before .before .before .before .before .before .before .before .before .before .before .before .before .before .before .before .before .before .before .before .pre .0 .room in
+    let r = c .before .before .before .before .before .before .before .before .before .before .before .before .before .before .before .before .before .before .before .before .before .before .before .before .before .before .before .before .before .before .pre .0 in
     let o = subst (λ (k : ℕ). 8 ≤ k) (sym (c .before .before .before .before .before .before .before .before .before .before .odds2 .kept .1 .1 .1 .1 .1 .0 ∙ c .before .before .before .before .before .before .before .before .before .before .before .before .before .before .before .before .before .before .before .before .before .odds .kept .1 .1 .1 .1 .1 .0)) (lit≤ tt) in
     let d = subst (λ (k : ℕ). 1 ≤ k) (sym (c .before .before .before .before .before .fold3 .kept .1 .1 .1 .1 .1 .0)) (lit≤ tt) in
     (lit≤ tt, r .low, r .high, odds-reach 8 1 4 refl (lit< tt) (lit< tt) (lent-rows 8 (lit< tt) (lit≤ tt) (c .before .before .before .before .before .before .before .before .before .before .before .before .before .before .before .before .before .before .before .before .before .before .before .before .before .before .before .before .before .before .pre .1)) d o)
@@ -97,7 +97,7 @@ slice-aggregate-zeroth-2 c = search needs
 
 zeroth-requires : tie.Need-zeroth-requires
 zeroth-requires c κs =
-    let r = c .before .before .before .before .before .before .before .before .before .before .before .before .before .before .before .before .before .before .before .before .before .before .before .before .before .before .before .before .before .before .before .before .before .before .before .pre .0 .room in
+    let r = c .before .before .before .before .before .before .before .before .before .before .before .before .before .before .before .before .before .before .before .before .before .before .before .before .before .before .before .before .before .before .before .before .before .before .before .pre .0 in
     let t = lent-rows 8 (lit< tt) (lit≤ tt) (c .before .before .before .before .before .before .before .before .before .before .before .before .before .before .before .before .before .before .before .before .before .before .before .before .before .before .before .before .before .before .before .before .before .before .before .pre .1) .inside 0 0 (lit< tt) (lit< tt) in
     let o = subst (λ (k : ℕ). 8 ≤ k) (sym (c .before .before .before .before .odds3 .kept .1 .1 .1 .1 .1 .0 ∙ c .before .before .before .before .before .before .before .before .before .before .before .before .before .before .before .odds2 .kept .1 .1 .1 .1 .1 .0 ∙ c .before .before .before .before .before .before .before .before .before .before .before .before .before .before .before .before .before .before .before .before .before .before .before .before .before .before .odds .kept .1 .1 .1 .1 .1 .0)) (lit≤ tt) in
     let s = subst (λ (k : ℕ). 1 ≤ k) (sym (c .before .before .before .before .before .before .before .before .before .before .fold3 .kept .1 .1 .1 .1 .0)) (lit≤ tt) in
@@ -107,11 +107,11 @@ slice-aggregate-put : tie.Need-slice-aggregate-put
 slice-aggregate-put c = search needs
 
 mul-put : tie.Need-mul-put
-mul-put c = let r = c .before .before .before .before .before .before .before .before .before .before .before .before .before .before .before .before .before .before .before .before .before .before .before .before .before .before .before .before .before .before .before .before .before .before .before .before .before .before .before .pre .0 .room in omega arith
+mul-put c = let r = c .before .before .before .before .before .before .before .before .before .before .before .before .before .before .before .before .before .before .before .before .before .before .before .before .before .before .before .before .before .before .before .before .before .before .before .before .before .before .before .pre .0 in omega arith
 
 put-requires : tie.Need-put-requires
 put-requires c κs =
-    let r = c .before .before .before .before .before .before .before .before .before .before .before .before .before .before .before .before .before .before .before .before .before .before .before .before .before .before .before .before .before .before .before .before .before .before .before .before .before .before .before .pre .0 .room in
+    let r = c .before .before .before .before .before .before .before .before .before .before .before .before .before .before .before .before .before .before .before .before .before .before .before .before .before .before .before .before .before .before .before .before .before .before .before .before .before .before .before .pre .0 in
     (subst (λ (k : ℕ). 8 ≤ k) (sym (c .before .before .before .zeroth .kept .1 .1 .1 .0 ∙ c .before .before .before .before .before .before .before .before .odds3 .kept .1 .1 .1 .1 .1 .0 ∙ c .before .before .before .before .before .before .before .before .before .before .before .before .before .before .before .before .before .before .before .odds2 .kept .1 .1 .1 .1 .1 .0 ∙ c .before .before .before .before .before .before .before .before .before .before .before .before .before .before .before .before .before .before .before .before .before .before .before .before .before .before .before .before .before .before .odds .kept .1 .1 .1 .1 .1 .0)) (lit≤ tt), omega arith)
 
 same-length : tie.Need-same-length
@@ -125,7 +125,7 @@ returns c =
     let p1 = stage 8 4 1 refl (lit< tt) (mirror 2 (lit< tt)) k p0 (c .before .before .before .before .before .before .before .before .before .before .before .before .before .before .before .before .before .before .before .before .before .before .before .before .before .before .before .before .before .before .before .before .before .before .before .before .before .before .fold .ensures) (c .before .before .before .before .before .before .before .before .before .before .before .before .before .before .before .before .before .before .before .before .before .before .before .before .before .before .before .before .before .before .before .before .odds .ensures) in
     let p2 = stage 8 2 2 refl (lit< tt) (mirror 1 (lit< tt)) k p1 (c .before .before .before .before .before .before .before .before .before .before .before .before .before .before .before .before .before .before .before .before .before .before .before .before .before .before .before .fold2 .ensures) (c .before .before .before .before .before .before .before .before .before .before .before .before .before .before .before .before .before .before .before .before .before .odds2 .ensures) in
     let p3 = stage 8 1 4 refl (lit< tt) (mirror 0 (lit< tt)) k p2 (c .before .before .before .before .before .before .before .before .before .before .before .before .before .before .before .before .fold3 .ensures) (c .before .before .before .before .before .before .before .before .before .before .odds3 .ensures) in
-    dct-line 8 (a .shift) (a .line) (a .j) (a .src .now) (a .dst .now) (finish 8 (lit< tt) k p3 (c .before .before .before .before .before .zeroth .ensures)) (c .before .put .ensures)
+    dct-line 8 (a .shift) (a .line) (a .j) (a .to) (a .src .now) (a .dst .now) (finish 8 (lit< tt) k p3 (c .before .before .before .before .before .zeroth .ensures)) (c .before .put .ensures)
 
 pub dct8-line-spec : {M : Type 1} → statement M
 dct8-line-spec =

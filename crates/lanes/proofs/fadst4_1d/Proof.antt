@@ -9,7 +9,7 @@ use Rattle.lanes.proofs.fadst4_1d.Statement.{statement}
 use Rattle.lanes.proofs.fadst4_1d.Tie as tie
 
 abbrev Inv-loop : tie.InvT-loop
-Inv-loop shift line start count src dst₀ t i₀ dst i = Written 1 4 shift line src start i dst dst₀ × (i ≤ count)
+Inv-loop shift line start count src dst₀ t i₀ dst i = Written 1 4 shift line src start start i dst dst₀ × (i ≤ count)
 
 abbrev μ-loop : tie.MeasureT-loop
 μ-loop shift line start count src dst₀ t i₀ dst i = count - i
@@ -20,11 +20,11 @@ adst4-requires c κs = search needs
 loop-holds : tie.Need-loop-holds Inv-loop μ-loop
 loop-holds c = (none-yet, omega arith)
 
+add-j : tie.Need-add-j Inv-loop μ-loop
+add-j c = let r = c .before .before .before .pre in omega arith
+
 slice-aggregate-dense-line : tie.Need-slice-aggregate-dense-line Inv-loop μ-loop
 slice-aggregate-dense-line c = search needs
-
-add-dense-line : tie.Need-add-dense-line Inv-loop μ-loop
-add-dense-line c = let r = c .before .before .before .before .pre in omega arith
 
 dense-line-requires : tie.Need-dense-line-requires Inv-loop μ-loop
 dense-line-requires c κs =
@@ -54,8 +54,8 @@ fadst4-1d-spec =
     μ-loop
     adst4-requires
     loop-holds
+    add-j
     slice-aggregate-dense-line
-    add-dense-line
     dense-line-requires
     add-i
     loop-less

@@ -8,7 +8,7 @@ use Rattle.lanes.proofs.fdct32_1d.Statement.{statement}
 use Rattle.lanes.proofs.fdct32_1d.Tie as tie
 
 abbrev Inv-loop : tie.InvT-loop
-Inv-loop shift line start count src dst₀ t i₀ dst i = Written 0 32 shift line src start i dst dst₀ × (i ≤ count)
+Inv-loop shift line start count src dst₀ t i₀ dst i = Written 0 32 shift line src start start i dst dst₀ × (i ≤ count)
 
 abbrev μ-loop : tie.MeasureT-loop
 μ-loop shift line start count src dst₀ t i₀ dst i = count - i

@@ -8,7 +8,7 @@ use borrow.Author.Needs.{needs}
 use lib.Dec.{lit≤}
 use lib.IntN.{ℤ, pos}
 use Rattle.lines.specs.Room.{LineRoom}
-use Rattle.lines.proofs.Line.{line-ends, dense-reach, adst-line}
+use Rattle.lines.proofs.Line.{line-place, dense-reach, adst-line}
 use Rattle.lines.proofs.dense_line.Statement.{statement}
 use Rattle.lines.proofs.dense_line.Tie as tie
 
@@ -22,19 +22,19 @@ frequencies-requires : tie.Need-frequencies-requires
 frequencies-requires c κs =
     let a = c .before .args in
     let p = c .before .pre in
-    (p .0 .room .low, p .0 .room .high, dense-reach (a .n) (a .line) (a .j) (a .shift) (a .src .now) (p .1) (p .0))
+    (p .0 .low, p .0 .high, dense-reach (a .n) (a .line) (a .j) (a .shift) (a .src .now) (p .1) (p .0))
 
 slice-aggregate-put : tie.Need-slice-aggregate-put
 slice-aggregate-put c = search needs
 
 mul-put : tie.Need-mul-put
-mul-put c = omega (arith, line-ends (c .before .before .before .before .before .pre .0))
+mul-put c = omega (arith, line-place (c .before .before .before .before .before .pre .0))
 
 put-requires : tie.Need-put-requires
 put-requires c κs =
     let p = c .before .before .before .before .before .pre in
     let s = p .1 .small in
-    (subst (λ (k : ℕ). c .before .before .before .before .before .args .n ≤ k) (sym (c .before .before .before .frequencies .kept .1 .1 .1 .1 .1 .1 .1 .1 .1 .1 .0)) s, line-ends (p .0) .1)
+    (subst (λ (k : ℕ). c .before .before .before .before .before .args .n ≤ k) (sym (c .before .before .before .frequencies .kept .1 .1 .1 .1 .1 .1 .1 .1 .1 .1 .0)) s, p .0 .dst)
 
 same-length : tie.Need-same-length
 same-length c = search needs
@@ -43,7 +43,7 @@ returns : tie.Need-returns
 returns c =
     let a = c .before .before .before .before .before .before .before .args in
     let p = c .before .before .before .before .before .before .before .pre in
-    adst-line (a .n) (a .line) (a .j) (a .shift) (a .src .now) (p .1) zeros (a .dst .now) (p .1 .small) (c .before .before .before .before .before .frequencies .ensures) (c .before .put .ensures)
+    adst-line (a .n) (a .line) (a .j) (a .shift) (a .src .now) (p .1) (a .to) zeros (a .dst .now) (p .1 .small) (c .before .before .before .before .before .frequencies .ensures) (c .before .put .ensures)
 
 pub dense-line-spec : {M : Type 1} → statement M
 dense-line-spec =

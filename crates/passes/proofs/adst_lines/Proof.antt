@@ -7,7 +7,7 @@ use Rattle.passes.proofs.adst_lines.Statement.{statement}
 use Rattle.passes.proofs.adst_lines.Tie as tie
 
 abbrev Inv-loop : tie.InvT-loop
-Inv-loop n t fs ks shift line src dst₀ j₀ dst j = Written 1 n shift line src 0 j dst dst₀ × (j ≤ line)
+Inv-loop n t fs ks shift line src dst₀ j₀ dst j = Written 1 n shift line src 0 0 j dst dst₀ × (j ≤ line)
 
 abbrev μ-loop : tie.MeasureT-loop
 μ-loop n t fs ks shift line src dst₀ j₀ dst j = line - j

@@ -8,7 +8,7 @@ use borrow.Author.Needs.{needs}
 use lib.Dec.{lit<}
 use lib.IntN.{ℤ, pos}
 use lib.ListN.{length}
-use Rattle.lines.proofs.Line.{dct-line, line-ends}
+use Rattle.lines.proofs.Line.{dct-line, line-place}
 use Rattle.lines.proofs.Reach.{odds-reach}
 use Rattle.lines.proofs.Stage.{IsKernel, finish}
 use Rattle.passes.proofs.Going.{Going, whole-table, going-start, turn, going-next, going-end}
@@ -37,8 +37,7 @@ slice-aggregate-gather c = search needs
 gather-requires : tie.Need-gather-requires Inv-loop μ-loop
 gather-requires c κs =
     let r = c .before .pre .0 in
-    let e = r .room .ends in
-    (omega arith, r .room .src, r .side)
+    (r .inside, r .src, r .side)
 
 loop-holds : tie.Need-loop-holds Inv-loop μ-loop
 loop-holds c =
@@ -76,8 +75,8 @@ odds-requires c κs =
     let w = u .whole in
     let d = c .before .before .before .before .before .fold .kept .1 .1 .1 .1 .1 .0 ∙ l .inv .3 in (
       u .step-small,
-      r .room .low,
-      r .room .high,
+      r .low,
+      r .high,
       odds-reach (c .before .before .before .before .before .before .before .before .before .before .before .before .before .before .args .n) (l .m / 2) (l .step) (u .product) (u .some) (u .step-some) (table (c .before .before .before .before .before .before .before .before .before .before .before .before .before .before)) (omega arith) (omega (arith, l .inv .4)),
     )
 
@@ -115,20 +114,20 @@ zeroth-requires c κs =
     let l = c .before .before .before .before .loop in
     let p = c .before .before .before .before .before .before .before .before .pre in
     let t = table (c .before .before .before .before .before .before .before .before) .inside 0 0 (p .0 .some) (p .0 .some) in
-    (p .0 .room .low, p .0 .room .high, omega arith, omega (arith, l .inv .1), omega (arith, l .inv .4))
+    (p .0 .low, p .0 .high, omega arith, omega (arith, l .inv .1), omega (arith, l .inv .4))
 
 slice-aggregate-put : tie.Need-slice-aggregate-put Inv-loop μ-loop
 slice-aggregate-put c = sym (c .before .before .zeroth .kept .1 .1 .1 .0 ∙ c .before .before .before .before .before .before .before .loop .inv .4)
 
 mul-put : tie.Need-mul-put Inv-loop μ-loop
-mul-put c = omega (arith, line-ends (c .before .before .before .before .before .before .before .before .before .before .before .before .pre .0))
+mul-put c = omega (arith, line-place (c .before .before .before .before .before .before .before .before .before .before .before .before .pre .0))
 
 put-requires : tie.Need-put-requires Inv-loop μ-loop
 put-requires c κs =
     let p = c .before .before .before .before .before .before .before .before .before .before .before .before .pre .0 in
     let s = p .side in
     let o = c .before .before .before .zeroth .kept .1 .1 .1 .0 ∙ c .before .before .before .before .before .before .before .before .loop .inv .4 in
-    (omega arith, line-ends p .1)
+    (omega arith, p .dst)
 
 same-length : tie.Need-same-length Inv-loop μ-loop
 same-length c = search needs
@@ -139,7 +138,7 @@ returns c =
     let a = c .before .before .before .before .before .before .before .before .before .before .before .before .before .before .args in
     let p = c .before .before .before .before .before .before .before .before .before .before .before .before .before .before .pre in
     let e = going-end (l .inv .0) (p .0 .some) (p .0 .side) (omega arith) in
-    dct-line (a .n) (a .shift) (a .line) (a .j) (a .src .now) (a .dst .now) (finish (a .n) (p .0 .some) (table (c .before .before .before .before .before .before .before .before .before .before .before .before .before .before)) e (c .before .before .before .before .before .zeroth .ensures)) (c .before .put .ensures)
+    dct-line (a .n) (a .shift) (a .line) (a .j) (a .j) (a .src .now) (a .dst .now) (finish (a .n) (p .0 .some) (table (c .before .before .before .before .before .before .before .before .before .before .before .before .before .before)) e (c .before .before .before .before .before .zeroth .ensures)) (c .before .put .ensures)
 
 pub dct-line-spec : {M : Type 1} → statement M
 dct-line-spec =
