@@ -1,6 +1,6 @@
 -- What `lanes` asks of a block's lines, and what a block's buffers have room for. Assumes nothing.
-use mathlib.Core.Path.{_≡_, sym, _∙_}
-use mathlib.Core.Bool.{Bool, true}
+use mathlib.Core.Path.{_≡_}
+use mathlib.Core.Bool.{Bool}
 use Prim.Native.Nat.{ℕ, _+_, _*_, _≤_}
 use native.Mathlib.Nat.{mul-comm, mul-le-mul-right, add-mul}
 use native.Mathlib.Omega.{arith}

@@ -1,14 +1,14 @@
 -- All the lines of an accepted block: what its two buffers hold afterwards. Assumes nothing.
-use mathlib.Core.Path.{_≡_, refl, sym, ap, ap₂, _∙_}
+use mathlib.Core.Path.{_≡_, sym, ap₂, _∙_}
 use mathlib.Core.List.{List}
 use Prim.Native.Nat.{ℕ, _+_, _*_, _/_, _%_, _≤_, _<_}
-use native.Mathlib.Nat.{zero-mul, zero-add, mul-comm}
+use native.Mathlib.Nat.{zero-mul, zero-add}
 use native.Mathlib.Omega.{arith}
 use lib.Arith.{digits-lt, digits-div, digits-mod}
 use lib.IntN.{ℤ, pos, natAbs}
 use lib.ListN.{length, getD}
 use Rattle.laws.specs.Store.{laid}
-use Rattle.laws.proofs.Laid.{length-laid, laid-at}
+use Rattle.laws.proofs.Laid.{laid-at}
 use Rattle.residual.proofs.Residual.{residual-size}
 use Rattle.kernels.specs.Kernel.{hasKernel}
 use Rattle.block.specs.Block.{columnAt, rowAt}

@@ -12,7 +12,6 @@ use Rattle.block.specs.Block.{rowAt}
 use Rattle.wht.specs.Wht.{whtOf}
 use Rattle.quant.specs.Step.{stepOf}
 use Rattle.quant.specs.Place.{Said, refused, dropped, kept, oneAnswer}
-use Rattle.quant.specs.declared.Settings.{Settings}
 
 -- ---- what a definition gives, as a list of integers
 

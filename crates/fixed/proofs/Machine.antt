@@ -1,20 +1,19 @@
 -- The machine's signed integers modulo a power of two: the bits of a number, and the number of some bits, are congruent to it; a shift left by 32 and back
 -- of 64 bits is the reduction to 32 bits. Assumes nothing.
 use mathlib.Core.Path.{_≡_, refl, sym, ap, ap₂, _∙_, subst}
-use mathlib.Core.Bool.{Bool, true, false, not}
-use Prim.Native.Nat.{ℕ, zero, suc, _+_, _-_, _*_, _/_, _%_, _^_, _≤_, _<_}
-use native.Mathlib.Nat.{suc-mul, mul-div-cancel, mod-lt, div-lt-iff-lt-mul, lt-of-lt-of-le, lt-of-le-of-lt, one-mul, mod-eq-of-lt}
+use mathlib.Core.Bool.{Bool, true, false}
+use Prim.Native.Nat.{ℕ, zero, suc, _-_, _*_, _/_, _%_, _^_, _≤_, _<_}
+use native.Mathlib.Nat.{mod-lt, lt-of-lt-of-le, lt-of-le-of-lt, one-mul, mod-eq-of-lt}
 use native.Mathlib.Omega.{arith}
-use lib.Arith.{digits-div}
-use lib.Dec.{T, ltb, lit<, lit≤}
+use lib.Dec.{ltb, lit<, lit≤}
 use lib.Pow.{pow-pos, pow-lt}
 use lib.Signed.{mag, shrZ, mag-shr}
-use lib.IntN.{ℤ, pos, negsuc, negℤ, subℕ, _+ℤ_, _-ℤ_, _*ℤ_}
-use mir.Syntax.{Width, w8, w16, w32, w64}
+use lib.IntN.{ℤ, pos, negsuc, _+ℤ_, _-ℤ_, _*ℤ_}
+use mir.Syntax.{Width, w8, w32, w64}
 use mir.Val.{Fits, SFits, toZ, ofZ, bits, hbits, sel}
 use mir.ValLaws.{half-full, toZ-fits}
 use mir.Facts.{toZ-ofZ, sfits-widen, toZ-pos}
-use Rattle.laws.specs.Integer.{floorDiv, modℤ, wrap32}
+use Rattle.laws.specs.Integer.{floorDiv, wrap32}
 use Rattle.laws.proofs.Ring.{lit, _⊕_, _⊖_, _⊗_, ring₂}
 use Rattle.laws.proofs.Size.{subℕ-lt, subℕ-ge, pos-sub, mag-add, mag-sub, mag-mul}
 use Rattle.laws.proofs.Divide.{floorDiv-law, floorDiv-exact, mag-floorDiv}

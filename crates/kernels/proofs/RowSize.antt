@@ -1,11 +1,10 @@
 -- The sums of magnitudes of the kernels' rows, computed: at most 64 for each number of the row, at every side and kind. Assumes nothing.
 use mathlib.Core.Path.{_≡_, sym, _∙_}
-use mathlib.Core.Bool.{Bool, true, false, _||_, _&&_, not, false≢true}
+use mathlib.Core.Bool.{true, false, false≢true}
 use Prim.Native.Nat.{ℕ, zero, suc, _*_, _≤_, _<_}
 use native.Mathlib.Omega.{arith}
-use lib.Dec.{T, eqb, leb, leb→le}
+use lib.Dec.{T, leb, leb→le}
 use borrow.Author.Tests.{ne-eqb}
-use lib.IntN.{ℤ}
 use Rattle.laws.specs.Sum.{sumℕ}
 use Rattle.laws.specs.Table.{every}
 use Rattle.laws.proofs.Table.{every-at}

@@ -1,11 +1,10 @@
 -- The tables that the lane passes lend. Assumes nothing.
 use mathlib.Core.Path.{_≡_, sym, subst}
 use mathlib.Core.List.{List}
-use Prim.Native.Nat.{ℕ, _+_, _*_, _≤_, _<_}
+use Prim.Native.Nat.{ℕ, _≤_, _<_}
 use native.Mathlib.Omega.{arith}
 use lib.Arith.{digits-lt}
 use lib.IntN.{ℤ}
-use lib.ListN.{length}
 use Rattle.kernels.specs.Dct.{dct32, dctRows}
 use Rattle.kernels.proofs.Dct.{rows-at, rows-length, whole-at}
 use Rattle.lines.proofs.Stage.{IsKernel}

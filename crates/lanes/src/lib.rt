@@ -17,13 +17,9 @@ fn dct4_line(t: &[i8; 16], line: usize, j: usize, src: &[i32], dst: &mut [i32], 
 {
     let mut o = [0i32; 4];
     let mut s2 = [0i32; 2];
-    let mut d2 = [0i32; 2];
-    lines::fold(2, src, j, line, &mut s2, &mut d2);
-    lines::odds(4, 2, 1, t, &d2, &mut o, shift);
+    lines::halve(4, 2, 1, t, src, j, line, &mut s2, &mut o, shift);
     let mut s1 = [0i32; 1];
-    let mut d1 = [0i32; 1];
-    lines::fold(1, &s2, 0, 1, &mut s1, &mut d1);
-    lines::odds(4, 1, 2, t, &d1, &mut o, shift);
+    lines::halve(4, 1, 2, t, &s2, 0, 1, &mut s1, &mut o, shift);
     lines::zeroth(4, t, &s1, &mut o, shift);
     lines::put(4, &o, dst, j * 4);
 }
@@ -43,17 +39,11 @@ fn dct8_line(
 {
     let mut o = [0i32; 8];
     let mut s4 = [0i32; 4];
-    let mut d4 = [0i32; 4];
-    lines::fold(4, src, j, line, &mut s4, &mut d4);
-    lines::odds(8, 4, 1, t, &d4, &mut o, shift);
+    lines::halve(8, 4, 1, t, src, j, line, &mut s4, &mut o, shift);
     let mut s2 = [0i32; 2];
-    let mut d2 = [0i32; 2];
-    lines::fold(2, &s4, 0, 1, &mut s2, &mut d2);
-    lines::odds(8, 2, 2, t, &d2, &mut o, shift);
+    lines::halve(8, 2, 2, t, &s4, 0, 1, &mut s2, &mut o, shift);
     let mut s1 = [0i32; 1];
-    let mut d1 = [0i32; 1];
-    lines::fold(1, &s2, 0, 1, &mut s1, &mut d1);
-    lines::odds(8, 1, 4, t, &d1, &mut o, shift);
+    lines::halve(8, 1, 4, t, &s2, 0, 1, &mut s1, &mut o, shift);
     lines::zeroth(8, t, &s1, &mut o, shift);
     lines::put(8, &o, dst, to * 8);
 }
@@ -65,21 +55,13 @@ fn dct16_line(t: &[i8; 256], line: usize, j: usize, src: &[i32], dst: &mut [i32]
 {
     let mut o = [0i32; 16];
     let mut s8 = [0i32; 8];
-    let mut d8 = [0i32; 8];
-    lines::fold(8, src, j, line, &mut s8, &mut d8);
-    lines::odds(16, 8, 1, t, &d8, &mut o, shift);
+    lines::halve(16, 8, 1, t, src, j, line, &mut s8, &mut o, shift);
     let mut s4 = [0i32; 4];
-    let mut d4 = [0i32; 4];
-    lines::fold(4, &s8, 0, 1, &mut s4, &mut d4);
-    lines::odds(16, 4, 2, t, &d4, &mut o, shift);
+    lines::halve(16, 4, 2, t, &s8, 0, 1, &mut s4, &mut o, shift);
     let mut s2 = [0i32; 2];
-    let mut d2 = [0i32; 2];
-    lines::fold(2, &s4, 0, 1, &mut s2, &mut d2);
-    lines::odds(16, 2, 4, t, &d2, &mut o, shift);
+    lines::halve(16, 2, 4, t, &s4, 0, 1, &mut s2, &mut o, shift);
     let mut s1 = [0i32; 1];
-    let mut d1 = [0i32; 1];
-    lines::fold(1, &s2, 0, 1, &mut s1, &mut d1);
-    lines::odds(16, 1, 8, t, &d1, &mut o, shift);
+    lines::halve(16, 1, 8, t, &s2, 0, 1, &mut s1, &mut o, shift);
     lines::zeroth(16, t, &s1, &mut o, shift);
     lines::put(16, &o, dst, j * 16);
 }
@@ -91,25 +73,15 @@ fn dct32_line(t: &[i8; 1024], line: usize, j: usize, src: &[i32], dst: &mut [i32
 {
     let mut o = [0i32; 32];
     let mut s16 = [0i32; 16];
-    let mut d16 = [0i32; 16];
-    lines::fold(16, src, j, line, &mut s16, &mut d16);
-    lines::odds(32, 16, 1, t, &d16, &mut o, shift);
+    lines::halve(32, 16, 1, t, src, j, line, &mut s16, &mut o, shift);
     let mut s8 = [0i32; 8];
-    let mut d8 = [0i32; 8];
-    lines::fold(8, &s16, 0, 1, &mut s8, &mut d8);
-    lines::odds(32, 8, 2, t, &d8, &mut o, shift);
+    lines::halve(32, 8, 2, t, &s16, 0, 1, &mut s8, &mut o, shift);
     let mut s4 = [0i32; 4];
-    let mut d4 = [0i32; 4];
-    lines::fold(4, &s8, 0, 1, &mut s4, &mut d4);
-    lines::odds(32, 4, 4, t, &d4, &mut o, shift);
+    lines::halve(32, 4, 4, t, &s8, 0, 1, &mut s4, &mut o, shift);
     let mut s2 = [0i32; 2];
-    let mut d2 = [0i32; 2];
-    lines::fold(2, &s4, 0, 1, &mut s2, &mut d2);
-    lines::odds(32, 2, 8, t, &d2, &mut o, shift);
+    lines::halve(32, 2, 8, t, &s4, 0, 1, &mut s2, &mut o, shift);
     let mut s1 = [0i32; 1];
-    let mut d1 = [0i32; 1];
-    lines::fold(1, &s2, 0, 1, &mut s1, &mut d1);
-    lines::odds(32, 1, 16, t, &d1, &mut o, shift);
+    lines::halve(32, 1, 16, t, &s2, 0, 1, &mut s1, &mut o, shift);
     lines::zeroth(32, t, &s1, &mut o, shift);
     lines::put(32, &o, dst, j * 32);
 }

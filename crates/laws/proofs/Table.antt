@@ -5,7 +5,7 @@ use mathlib.Core.Bool.{Bool, true, false, _&&_}
 use Prim.Native.Nat.{ℕ, zero, suc, _+_, _*_, _<_}
 use native.Mathlib.Nat.{not-suc-le-zero, le-of-suc-le-suc, eq-or-lt-of-le, zero-mul, suc-mul, add-zero, zero-add, add-suc, suc-add, add-comm}
 use lib.IntN.{ℤ, pos, negsuc}
-use lib.Dec.{T, eqb, eqb→eq}
+use lib.Dec.{T, eqb→eq}
 use lib.ListN.{drop}
 use lib.Seq.{drop-drop}
 use mathlib.Core.List.{List}

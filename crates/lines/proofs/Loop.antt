@@ -5,7 +5,7 @@ use Prim.Native.Nat.{ℕ, _+_, _*_, _/_, _%_, _≤_, _<_}
 use native.Mathlib.Nat.{mul-le-mul-right, add-mul, one-mul, mul-comm, zero-mul, zero-add, add-assoc}
 use native.Mathlib.Omega.{arith}
 use lib.IntN.{ℤ, pos}
-use Rattle.laws.specs.Store.{stores, grid, laid}
+use Rattle.laws.specs.Store.{stores, laid}
 use Rattle.laws.proofs.Store.{Lined, lined-none, lined-turn, lined-more, lined-length}
 use Rattle.laws.proofs.Laid.{grid-laid, stores-laid, laid-ext, laid-at}
 use lib.ListN.{length, getD}

@@ -1,13 +1,13 @@
 -- Where the pieces of a line read and store lies within their buffers. Assumes nothing.
-use mathlib.Core.Path.{_≡_, sym, _∙_}
+use mathlib.Core.Path.{_≡_}
 use Prim.Native.Nat.{ℕ, _+_, _*_, _≤_, _<_}
-use native.Mathlib.Nat.{zero-mul, mul-one, mul-le-mul-left}
+use native.Mathlib.Nat.{zero-mul, mul-one, mul-le-mul-left, mul-le-mul-right}
 use native.Mathlib.Omega.{arith}
 use mathlib.Core.List.{List}
 use lib.Arith.{digits-lt}
 use lib.IntN.{ℤ}
 use lib.ListN.{length}
-use Rattle.lines.specs.Line.{place, InReach}
+use Rattle.lines.specs.Line.{place, InReach, Halving}
 use Rattle.lines.proofs.Stage.{IsKernel, odd-place}
 
 pub zeroth-reach : (n : ℕ) {lt lx lo : ℕ} → 0 < lt → 0 < lx → 0 < lo → InReach 1 0 1 1 n 1 0 1 lt lx lo
@@ -23,7 +23,7 @@ zeroth-reach n a b c =
     row r z = rw z (zero-mul n)
 
 -- a stage's odd frequencies, where the table is that of side n
-pub odds-reach : (n h s : ℕ) {fs lx lo : ℕ} {ts : List ℤ} → n ≡ 2 * h * s → 0 < h → 0 < s → IsKernel n fs ts → h ≤ lx → n ≤ lo
+odds-reach : (n h s : ℕ) {fs lx lo : ℕ} {ts : List ℤ} → n ≡ 2 * h * s → 0 < h → 0 < s → IsKernel n fs ts → h ≤ lx → n ≤ lo
     → InReach h s (2 * s) h fs 1 0 1 (length ts) lx lo
 odds-reach n h s {fs} {lx} {lo} {ts} e a b t x o =
     record {
@@ -41,3 +41,21 @@ odds-reach n h s {fs} {lx} {lo} {ts} e a b t x o =
         let d : k * s + 0 < 2 * h * s = digits-lt (omega arith) b in
         let m : k * 1 ≤ k * s = mul-le-mul-left k b in
         omega (arith, mul-one k)
+
+-- a stage of a side of at most 32
+pub halving : (n h s : ℕ) {shift fs lx at stride ls lo : ℕ} {ts : List ℤ} → n ≡ 2 * h * s → n ≤ 32 → 0 < h → 0 < s → IsKernel n fs ts
+    → 1 ≤ shift → shift ≤ 15 → at < stride → 2 * h * stride ≤ lx → h ≤ ls → n ≤ lo
+    → Halving fs h s shift (length ts) lx at stride ls lo
+halving n h s e small a b t low high begins inside sums room =
+    let i : 2 * h * 1 ≤ 2 * h * s = mul-le-mul-left (2 * h) b in
+    let j : 2 * 1 * s ≤ 2 * h * s = mul-le-mul-right s (omega arith) in
+    record {
+      few = omega (arith, mul-one (2 * h));
+      begins = begins;
+      inside = inside;
+      sums = sums;
+      spaced = omega arith;
+      low = low;
+      high = high;
+      reach = odds-reach n h s e a b t (omega (arith, mul-one (2 * h))) room;
+    }

@@ -1,13 +1,13 @@
 -- The DCT by folds, generally over the side: each stage folds what is left of the line to half its length and settles the odd
 -- frequencies among those that are left, until one number remains. A side's proof is a chain of `stage`, closed by `finish`. Assumes nothing.
-use mathlib.Core.Path.{_≡_, refl, sym, ap, ap₂, _∙_, subst}
-use mathlib.Core.Logic.{⊎-elim, _⊎_, inl, inr}
+use mathlib.Core.Path.{_≡_, sym, ap, ap₂, _∙_, subst}
+use mathlib.Core.Logic.{⊎-elim}
 use mathlib.Core.List.{List}
 use Prim.Native.Nat.{ℕ, zero, suc, _+_, _-_, _*_, _^_, _≤_, _<_}
 use native.Mathlib.Nat.{mul-assoc, mul-comm, mul-one, one-mul, zero-mul, add-mul, mul-le-mul-left, mul-le-mul-right, eq-or-lt-of-le}
 use native.Mathlib.Omega.{arith}
 use lib.Arith.{digits-lt}
-use lib.IntN.{ℤ, pos, negℤ, _+ℤ_, _-ℤ_, _*ℤ_}
+use lib.IntN.{ℤ, pos, _+ℤ_, _-ℤ_, _*ℤ_}
 use lib.ListN.{length, getD}
 use Rattle.laws.specs.Sum.{sumTo}
 use Rattle.laws.specs.Store.{stores}
@@ -18,10 +18,10 @@ use Rattle.laws.proofs.Congruence.{Cong, cong-refl, cong-trans, cong-eq, cong-a
 use Rattle.laws.proofs.Wrap.{wrap32-is}
 use Rattle.fixed.specs.Fixed.{roundShift}
 use Rattle.fixed.proofs.Round.{roundShift-cong}
-use Rattle.kernels.specs.Dct.{dct, dct32}
+use Rattle.kernels.specs.Dct.{dct}
 use Rattle.kernels.proofs.Dct.{dct-scale}
-use Rattle.kernels.proofs.Mirror.{Mirrors, turned, turned-even, turned-odd}
-use Rattle.lines.specs.Line.{lineAt, rowSum, place, rounded, Butterfly, Gathered, sumOf, diffOf}
+use Rattle.kernels.proofs.Mirror.{Mirrors, turned-even, turned-odd}
+use Rattle.lines.specs.Line.{lineAt, rowSum, place, rounded, Butterfly, Halved, Gathered}
 
 -- frequency f of a line x of n numbers, exactly
 unfoldable pub dctSum : ℕ → ℕ → (ℕ → ℤ) → ℤ
@@ -185,11 +185,14 @@ begin-gathered n shift {src} {at} {stride} {xs} o g long =
       long = long;
     }
 
-pub stage : (n h s : ℕ) {shift fs : ℕ} {x : ℕ → ℤ} {xs : List ℤ} {at stride : ℕ} {o ss ds o' ts : List ℤ} → n ≡ 2 * h * s → 0 < s
-    → Mirrors (2 * h) → IsKernel n fs ts → Partly n s (2 * h) shift x xs at stride o → Butterfly h xs at stride ss ds
-    → o' ≡ stores o h (place s (2 * s)) (rounded shift h ts s (2 * s) fs 1 ds 0 1)
+pub stage : (n h s : ℕ) {shift fs : ℕ} {x : ℕ → ℤ} {xs : List ℤ} {at stride : ℕ} {o ss o' ts : List ℤ} → n ≡ 2 * h * s → 0 < s
+    → Mirrors (2 * h) → IsKernel n fs ts → Partly n s (2 * h) shift x xs at stride o
+    → Halved fs h s shift ts xs at stride o ss o'
     → Partly n (2 * s) h shift x ss 0 1 o'
-stage n h s {shift} {fs} {x} {xs} {at} {stride} {o} {ss} {ds} {o'} {ts} e some mirrors t p b u =
+stage n h s {shift} {fs} {x} {xs} {at} {stride} {o} {ss} {o'} {ts} e some mirrors t p f =
+    let ds = f .ds in
+    let b = f .butterfly in
+    let u = f .odd in
     record {
       left = folded-next n h s x mirrors xs at stride ss ds (p .left) b;
       settled = subst (Settled n (2 * s) shift x) (sym u)

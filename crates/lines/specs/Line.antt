@@ -1,10 +1,11 @@
 -- What the pieces of a line give, over the integers.
 use mathlib.Core.List.{List}
 use mathlib.Core.Path.{_≡_}
-use Prim.Native.Nat.{ℕ, _+_, _-_, _*_, _<_}
+use Prim.Native.Nat.{ℕ, _+_, _-_, _*_, _≤_, _<_}
 use lib.IntN.{ℤ, pos, _+ℤ_, _-ℤ_, _*ℤ_}
 use lib.ListN.{getD}
 use Rattle.laws.specs.Integer.{wrap32}
+use Rattle.laws.specs.Store.{stores}
 use Rattle.laws.specs.Sum.{sumTo}
 use Rattle.fixed.specs.Fixed.{roundShift}
 
@@ -37,6 +38,12 @@ pub record Butterfly (h : ℕ) (xs : List ℤ) (at stride : ℕ) (ss ds : List �
   pub sums : (k : ℕ) → k < h → getD ss k (pos 0) ≡ sumOf xs at stride h k
   pub diffs : (k : ℕ) → k < h → getD ds k (pos 0) ≡ diffOf xs at stride h k
 
+-- what `halve` leaves: h sums in ss, and in o' the odd frequencies, from the differences ds
+pub record Halved (fs h step shift : ℕ) (ts xs : List ℤ) (at stride : ℕ) (o ss o' : List ℤ) : Type 0 where
+  pub ds : List ℤ
+  pub butterfly : Butterfly h xs at stride ss ds
+  pub odd : o' ≡ stores o h (place step (2 * step)) (rounded shift h ts step (2 * step) fs 1 ds 0 1)
+
 -- what `gather` leaves: the line's n numbers in xs
 pub record Gathered (n : ℕ) (src : List ℤ) (at stride : ℕ) (xs : List ℤ) : Type 0 where
   pub numbers : (k : ℕ) → k < n → getD xs k (pos 0) ≡ lineAt src at stride k
@@ -54,3 +61,14 @@ pub record InReach (count first apart taps fs ks at stride lt lx lo : ℕ) : Typ
   pub table : (r k : ℕ) → r < count → k < taps → place first apart r * fs + k * ks < lt
   pub line : (k : ℕ) → k < taps → k * stride + at < lx
   pub stored : (r : ℕ) → r < count → place first apart r < lo
+
+-- what `halve` asks: its 2h numbers lie within the line, its h sums, and each place as above
+pub record Halving (fs h step shift lt lx at stride ls lo : ℕ) : Type 0 where
+  pub few : h ≤ 16
+  pub begins : at < stride
+  pub inside : 2 * h * stride ≤ lx
+  pub sums : h ≤ ls
+  pub spaced : step ≤ 16
+  pub low : 1 ≤ shift
+  pub high : shift ≤ 15
+  pub reach : InReach h step (2 * step) h fs 1 0 1 lt 16 lo

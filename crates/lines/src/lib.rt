@@ -7,7 +7,7 @@ ghost use Rattle.laws.specs.Integer.{wrap32};
 ghost use Rattle.laws.specs.Store.{stores};
 ghost use Rattle.lines.specs.Pass.{passAt};
 ghost use Rattle.lines.specs.Room.{LineRoom, Reading, onLine};
-ghost use Rattle.lines.specs.Line.{rowSum, place, rounded, InReach, Butterfly, Gathered, from, number};
+ghost use Rattle.lines.specs.Line.{rowSum, place, rounded, InReach, Butterfly, Halving, Halved, Gathered, from, number};
 
 // The sum of n products: the numbers of a table from row on, apart places apart, with those of a line that
 // begins at at and has a number every stride places.
@@ -64,7 +64,7 @@ pub fn frequencies(
 }
 
 // The butterfly: the sums and the differences of 2h numbers of a line, the first with the last, the second with the last but one, ..
-pub fn fold(h: usize, x: &[i32], at: usize, stride: usize, s: &mut [i32], d: &mut [i32])
+fn fold(h: usize, x: &[i32], at: usize, stride: usize, s: &mut [i32], d: &mut [i32])
     requires { ⌜ (h ≤ 16) × (at < stride) × (2 * h * stride ≤ length (now x)) × (h ≤ length (now s)) × (h ≤ length (now d)) ⌝ }
     ensures { λ _. ⌜ Butterfly h (now (x .entry)) at stride (now (s .exit)) (now (d .exit)) ⌝ }
 {
@@ -79,11 +79,32 @@ pub fn fold(h: usize, x: &[i32], at: usize, stride: usize, s: &mut [i32], d: &mu
 }
 
 // The odd frequencies of a stage: of 2h numbers at every step-th frequency of a side, from their differences d.
-pub fn odds(fs: usize, h: usize, step: usize, t: &[i8], d: &[i32], o: &mut [i32], shift: u32)
+fn odds(fs: usize, h: usize, step: usize, t: &[i8], d: &[i32], o: &mut [i32], shift: u32)
     requires { ⌜ (step ≤ 16) × (1 ≤ shift) × (shift ≤ 15) × InReach h step (2 * step) h fs 1 0 1 (length (now t)) (length (now d)) (length (now o)) ⌝ }
     ensures { λ _. ⌜ now (o .exit) ≡ stores (now (o .entry)) h (place step (2 * step)) (rounded shift h (now (t .entry)) step (2 * step) fs 1 (now (d .entry)) 0 1) ⌝ }
 {
     frequencies(h, step, 2 * step, h, t, fs, 1, d, 0, 1, o, shift);
+}
+
+// One stage of a DCT: a line of 2h numbers is folded to its h sums s, and from its differences come the odd frequencies.
+pub fn halve(
+    fs: usize,
+    h: usize,
+    step: usize,
+    t: &[i8],
+    x: &[i32],
+    at: usize,
+    stride: usize,
+    s: &mut [i32],
+    o: &mut [i32],
+    shift: u32,
+)
+    requires { ⌜ Halving fs h step shift (length (now t)) (length (now x)) at stride (length (now s)) (length (now o)) ⌝ }
+    ensures { λ _. ⌜ Halved fs h step shift (now (t .entry)) (now (x .entry)) at stride (now (o .entry)) (now (s .exit)) (now (o .exit)) ⌝ }
+{
+    let mut d = [0i32; 16];
+    fold(h, x, at, stride, s, &mut d);
+    odds(fs, h, step, t, &d, o, shift);
 }
 
 // Frequency 0, from the sum s of the whole line.

@@ -1,6 +1,5 @@
 -- The answer for one place as the C interface gives it: a number, and two numbers written.
 use mathlib.Core.Bool.{false}
-use Prim.Native.Nat.{ℕ}
 use lib.IntN.{ℤ, pos, negℤ}
 use lib.Ieee.{Float, fin}
 use Rattle.quant.specs.Place.{Said, refused, dropped, kept}

@@ -1,20 +1,18 @@
 -- The loop over the stages of a DCT line: m numbers are left, at every step-th frequency. Assumes nothing.
-use mathlib.Core.Path.{_≡_, refl, sym, ap, ap₂, _∙_, subst}
+use mathlib.Core.Path.{_≡_, sym, ap, _∙_, subst}
 use mathlib.Core.Bool.{true}
 use mathlib.Core.List.{List}
-use Prim.Native.Nat.{ℕ, zero, suc, _+_, _-_, _*_, _/_, _^_, _≤_, _<_}
-use native.Mathlib.Nat.{pow-suc, mul-comm, mul-assoc, mul-one, one-mul, mul-le-mul-left, mul-le-mul-right}
+use Prim.Native.Nat.{ℕ, zero, suc, _+_, _*_, _/_, _^_, _≤_, _<_}
+use native.Mathlib.Nat.{pow-suc, mul-comm, mul-assoc, mul-one, one-mul, mul-le-mul-right}
 use native.Mathlib.Omega.{arith}
-use lib.Dec.{lit≤}
 use lib.IntN.{ℤ, pos}
 use lib.ListN.{length, getD}
 use lib.Pow.{pow-pos, pow-mono}
-use Rattle.laws.specs.Store.{stores}
 use Rattle.sizes.specs.Size.{isSide, logOf}
 use Rattle.sizes.proofs.Side.{side-bounds, log-bounds, each-side}
 use Rattle.kernels.specs.Dct.{dct, dct32}
 use Rattle.kernels.proofs.Mirror.{Mirrors, mirror}
-use Rattle.lines.specs.Line.{lineAt, place, rounded, Butterfly, Gathered}
+use Rattle.lines.specs.Line.{lineAt, Halved, Gathered}
 use Rattle.lines.proofs.Stage.{IsKernel, Partly, begin-gathered, stage}
 
 -- the 1,024 numbers serve every side: row 32f/n begins at place f × (1024 / n)
@@ -51,15 +49,15 @@ going-start {n} {shift} o s g long =
     }
 
 -- half of what is left
-record Halved (m : ℕ) : Type 0 where
+record Half (m : ℕ) : Type 0 where
   pub twice : 2 * (m / 2) ≡ m
   pub half : Power (m / 2)
   pub mirrors : Mirrors (2 * (m / 2))
 
-halved : (m : ℕ) → Power m → 1 < m → Halved m
+halved : (m : ℕ) → Power m → 1 < m → Half m
 halved m p b = go (p .e) (p .is) (p .small)
   where
-    go : (e : ℕ) → m ≡ 2 ^ e → e ≤ 5 → Halved m
+    go : (e : ℕ) → m ≡ 2 ^ e → e ≤ 5 → Half m
     go zero i s = absurd (omega arith)
     go (suc e) i s =
         let d : 2 * 2 ^ e ≡ m = omega (arith, pow-suc 2 e) in
@@ -97,15 +95,14 @@ module _ {n m step shift : ℕ} {src : List ℤ} {j line : ℕ} {x o : List ℤ}
       step-some zero e = absurd (omega (arith, native.Mathlib.Nat.mul-zero m))
       step-some (suc s) e = omega arith
 
-  pub going-next : {fs : ℕ} {ts ss ds o' : List ℤ} → 1 < m → IsKernel n fs ts → Butterfly (m / 2) x 0 1 ss ds
-      → o' ≡ stores o (m / 2) (place step (2 * step)) (rounded shift (m / 2) ts step (2 * step) fs 1 ds 0 1)
+  pub going-next : {fs : ℕ} {ts ss o' : List ℤ} → 1 < m → IsKernel n fs ts → Halved fs (m / 2) step shift ts x 0 1 o ss o'
       → Going n (m / 2) (2 * step) shift src j line ss o'
-  going-next b t f u =
+  going-next b t f =
       let h = halved m (g .power) b in
       let r = turn b in
       record {
         partly = stage n (m / 2) step (r .product) (r .step-some) (h .mirrors) t
-            (subst (λ (k : ℕ). Partly n step k shift (lineAt src j line) x 0 1 o) (sym (h .twice)) (g .partly)) f u;
+            (subst (λ (k : ℕ). Partly n step k shift (lineAt src j line) x 0 1 o) (sym (h .twice)) (g .partly)) f;
         product = regroup (m / 2) step ∙ sym (r .product);
         power = h .half;
       }

@@ -31,14 +31,12 @@ fn dct_line(
     let mut o = [0i32; 32];
     let mut x = [0i32; 32];
     let mut s = [0i32; 32];
-    let mut d = [0i32; 32];
     lines::gather(n, src, j, line, &mut x);
     let mut m = n;
     let mut step: usize = 1;
     while 1 < m {
         let h = m / 2;
-        lines::fold(h, &x, 0, 1, &mut s, &mut d);
-        lines::odds(fs, h, step, t, &d, &mut o, shift);
+        lines::halve(fs, h, step, t, &x, 0, 1, &mut s, &mut o, shift);
         x = s;
         m = h;
         step = 2 * step;

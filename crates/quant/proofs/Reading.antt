@@ -1,11 +1,11 @@
 -- The places that a scan means, and whether one is lost. Assumes nothing.
 use mathlib.Core.Path.{_≡_, refl, sym, ap, ap₂, _∙_, subst}
-use mathlib.Core.Bool.{Bool, true, false, not, _||_, cond, true≢false}
+use mathlib.Core.Bool.{Bool, true, false, not, cond}
 use mathlib.Core.List.{List}
 use Prim.Native.Nat.{ℕ, _+_, _*_, _/_, _%_, _≤_, _<_}
 use native.Mathlib.Nat.{mul-le-mul}
 use native.Mathlib.Omega.{arith}
-use borrow.Author.Tests.{lt-ltb, le-ltb, ltb-false, leb-false}
+use borrow.Author.Tests.{lt-ltb, le-ltb, leb-false}
 use lib.Dec.{T, ltb, leb, ltb→lt}
 use lib.IntN.{ℤ, pos}
 use lib.ListN.{length, getD}

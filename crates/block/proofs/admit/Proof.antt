@@ -1,16 +1,14 @@
 -- `block::admit` meets its contract: each return by the tests that led there. Assumes nothing.
 use mathlib.Core.Path.{_≡_, sym, ap₂, _∙_}
-use mathlib.Core.Bool.{true, false, _&&_, _||_, not}
-use Prim.Native.Nat.{_*_, _≤_}
+use mathlib.Core.Bool.{true, _&&_}
+use Prim.Native.Nat.{_*_}
 use native.Mathlib.Omega.{arith}
 use borrow.Author.Needs.{needs}
 use borrow.Author.Tests.{not-true, not-false, ltb-false}
-use lib.Dec.{ltb}
 use lib.ListN.{length}
 use Rattle.laws.proofs.Bool.{both, neither}
 use Rattle.answer.specs.Answer.{lowest}
 use Rattle.sizes.specs.Size.{isSide}
-use Rattle.residual.specs.Residual.{residualsOk}
 use Rattle.block.specs.Answer.{hasKinds, refusals, blockAnswer}
 use Rattle.block.proofs.Accepted.{size-small}
 use Rattle.block.proofs.admit.Statement.{statement}

@@ -3,7 +3,6 @@ use mathlib.Core.Path.{_≡_, sym, ap, _∙_, subst}
 use Prim.Native.Nat.{ℕ, _+_, _*_, _≤_}
 use native.Mathlib.Omega.{arith}
 use borrow.Author.Needs.{needs}
-use lib.ListN.{length}
 use Rattle.sizes.specs.Shift.{secondShift}
 use Rattle.sizes.proofs.Shift.{shift-bounds}
 use Rattle.lines.specs.Pass.{passLines}

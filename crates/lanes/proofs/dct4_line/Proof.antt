@@ -1,68 +1,70 @@
 -- `lanes::dct4_line` meets its contract: 2 stages, and the number that remains. Assumes nothing.
-use mathlib.Core.Path.{_≡_, refl, sym, _∙_, subst}
-use mathlib.Core.List.{List, [], _∷_}
+use mathlib.Core.Path.{refl, sym, subst}
 use Prim.Native.Nat.{ℕ, _≤_}
 use native.Mathlib.Omega.{arith}
 use borrow.Author.Needs.{needs}
 use lib.Dec.{lit<, lit≤}
-use lib.IntN.{ℤ, pos}
+use lib.IntN.{pos}
+use lib.ListN.{replicate}
 use Rattle.kernels.proofs.Mirror.{mirror}
-use Rattle.lines.proofs.Reach.{odds-reach}
-use Rattle.lines.proofs.Stage.{begin, stage, finish}
+use Rattle.lines.specs.Line.{lineAt}
+use Rattle.lines.proofs.Line.{dct-line, line-place}
+use Rattle.lines.proofs.Reach.{halving}
+use Rattle.lines.proofs.Stage.{IsKernel, Partly, begin, stage, finish}
 use Rattle.lanes.proofs.Kernel.{lent-rows}
-use Rattle.lines.proofs.Line.{dct-line}
 use Rattle.lanes.proofs.dct4_line.Statement.{statement}
 use Rattle.lanes.proofs.dct4_line.Tie as tie
 
-abbrev zeros : List ℤ
-zeros = pos 0 ∷ pos 0 ∷ pos 0 ∷ pos 0 ∷ []
+table : (c : tie.Start) → IsKernel 4 4 (c .args .t .now)
+table c = lent-rows 4 (lit< tt) (lit≤ tt) (c .pre .1)
 
-slice-aggregate-fold : tie.Need-slice-aggregate-fold
-slice-aggregate-fold c = search needs
+-- the line on its way, after each stage
 
-slice-aggregate-fold-2 : tie.Need-slice-aggregate-fold-2
-slice-aggregate-fold-2 c = search needs
+abbrev start1 : tie.After-halve → tie.Start
+start1 c = c .before .before .before .before
 
-fold-requires : tie.Need-fold-requires
-fold-requires c κs = search needs
+done1 : (c : tie.After-halve) →
+    let a = start1 c .args in Partly 4 2 2 (a .shift) (lineAt (a .src .now) (a .j) (a .line)) (c .halve .last .1 .1 .1 .1 .1 .1 .1 .0) 0 1 (c .halve .last .1 .1 .1 .1 .1 .1 .1 .1 .0)
+done1 c =
+    let a = start1 c .args in
+    stage 4 2 1 refl (lit< tt) (mirror 1 (lit< tt)) (table (start1 c)) (begin 4 (a .shift) (a .src .now) (a .j) (a .line) (replicate 4 (pos 0)) (lit≤ tt)) (c .halve .ensures)
 
-slice-aggregate-odds : tie.Need-slice-aggregate-odds
-slice-aggregate-odds c = search needs
+abbrev start2 : tie.After-halve2 → tie.Start
+start2 c = start1 (c .before .before .before .before .before .before .before)
 
-slice-aggregate-odds-2 : tie.Need-slice-aggregate-odds-2
-slice-aggregate-odds-2 c = search needs
+done2 : (c : tie.After-halve2) →
+    let a = start2 c .args in Partly 4 4 1 (a .shift) (lineAt (a .src .now) (a .j) (a .line)) (c .halve2 .last .1 .1 .1 .1 .1 .1 .1 .0) 0 1 (c .halve2 .last .1 .1 .1 .1 .1 .1 .1 .1 .0)
+done2 c =
+    let a = start2 c .args in
+    stage 4 1 2 refl (lit< tt) (mirror 0 (lit< tt)) (table (start2 c)) (done1 (c .before .before .before .before .before .before .before)) (c .halve2 .ensures)
 
-odds-requires : tie.Need-odds-requires
-odds-requires c κs =
-    let r = c .before .before .before .before .before .before .before .before .pre .0 in
-    let o = lit≤ tt in
-    let d = subst (λ (k : ℕ). 2 ≤ k) (sym (c .before .before .before .before .before .fold .kept .1 .1 .1 .1 .1 .0)) (lit≤ tt) in
-    (lit≤ tt, r .low, r .high, odds-reach 4 2 1 refl (lit< tt) (lit< tt) (lent-rows 4 (lit< tt) (lit≤ tt) (c .before .before .before .before .before .before .before .before .pre .1)) d o)
+slice-aggregate-halve : tie.Need-slice-aggregate-halve
+slice-aggregate-halve c = search needs
 
-slice-aggregate-fold-3 : tie.Need-slice-aggregate-fold-3
-slice-aggregate-fold-3 c = search needs
+slice-aggregate-halve-2 : tie.Need-slice-aggregate-halve-2
+slice-aggregate-halve-2 c = search needs
 
-slice-aggregate-fold-4 : tie.Need-slice-aggregate-fold-4
-slice-aggregate-fold-4 c = search needs
+halve-requires : tie.Need-halve-requires
+halve-requires c κs =
+    let p = c .before .before .before in
+    let r = p .pre .0 in
+    halving 4 2 1 refl (lit≤ tt) (lit< tt) (lit< tt) (table p) (r .low) (r .high) (r .inside) (r .src) (lit≤ tt) (lit≤ tt)
 
-slice-aggregate-fold-5 : tie.Need-slice-aggregate-fold-5
-slice-aggregate-fold-5 c = search needs
+slice-aggregate-halve-3 : tie.Need-slice-aggregate-halve-3
+slice-aggregate-halve-3 c = search needs
 
-fold-requires-2 : tie.Need-fold-requires-2
-fold-requires-2 c κs = search needs
+slice-aggregate-halve-4 : tie.Need-slice-aggregate-halve-4
+slice-aggregate-halve-4 c = search needs
 
-slice-aggregate-odds-3 : tie.Need-slice-aggregate-odds-3
-slice-aggregate-odds-3 c = search needs
+slice-aggregate-halve-5 : tie.Need-slice-aggregate-halve-5
+slice-aggregate-halve-5 c = search needs
 
-slice-aggregate-odds-4 : tie.Need-slice-aggregate-odds-4
-slice-aggregate-odds-4 c = search needs
-
-odds-requires-2 : tie.Need-odds-requires-2
-odds-requires-2 c κs =
-    let r = c .before .before .before .before .before .before .before .before .before .before .before .before .before .before .before .before .before .before .before .pre .0 in
-    let o = subst (λ (k : ℕ). 4 ≤ k) (sym (c .before .before .before .before .before .before .before .before .before .before .odds .kept .1 .1 .1 .1 .1 .0)) (lit≤ tt) in
-    let d = subst (λ (k : ℕ). 1 ≤ k) (sym (c .before .before .before .before .before .fold2 .kept .1 .1 .1 .1 .1 .0)) (lit≤ tt) in
-    (lit≤ tt, r .low, r .high, odds-reach 4 1 2 refl (lit< tt) (lit< tt) (lent-rows 4 (lit< tt) (lit≤ tt) (c .before .before .before .before .before .before .before .before .before .before .before .before .before .before .before .before .before .before .before .pre .1)) d o)
+halve-requires-2 : tie.Need-halve-requires-2
+halve-requires-2 c κs =
+    let p = c .before .before .before .before .before .before in
+    let r = start1 p .pre .0 in
+    halving 4 1 2 refl (lit≤ tt) (lit< tt) (lit< tt) (table (start1 p)) (r .low) (r .high) (lit< tt)
+    (subst (λ (l : ℕ). 2 ≤ l) (sym (p .halve .kept .1 .1 .1 .1 .1 .1 .1 .0)) (lit≤ tt)) (lit≤ tt) (done1 p .long)
 
 slice-aggregate-zeroth : tie.Need-slice-aggregate-zeroth
 slice-aggregate-zeroth c = search needs
@@ -72,52 +74,43 @@ slice-aggregate-zeroth-2 c = search needs
 
 zeroth-requires : tie.Need-zeroth-requires
 zeroth-requires c κs =
-    let r = c .before .before .before .before .before .before .before .before .before .before .before .before .before .before .before .before .before .before .before .before .before .before .before .before .pre .0 in
-    let t = lent-rows 4 (lit< tt) (lit≤ tt) (c .before .before .before .before .before .before .before .before .before .before .before .before .before .before .before .before .before .before .before .before .before .before .before .before .pre .1) .inside 0 0 (lit< tt) (lit< tt) in
-    let o = subst (λ (k : ℕ). 4 ≤ k) (sym (c .before .before .before .before .odds2 .kept .1 .1 .1 .1 .1 .0 ∙ c .before .before .before .before .before .before .before .before .before .before .before .before .before .before .before .odds .kept .1 .1 .1 .1 .1 .0)) (lit≤ tt) in
-    let s = subst (λ (k : ℕ). 1 ≤ k) (sym (c .before .before .before .before .before .before .before .before .before .before .fold2 .kept .1 .1 .1 .1 .0)) (lit≤ tt) in
-    (r .low, r .high, omega arith, s, omega arith)
+    let p = c .before .before .before .before .before in
+    let r = start2 p .pre .0 in
+    let t = table (start2 p) .inside 0 0 (lit< tt) (lit< tt) in
+    let o = done2 p .long in
+    (r .low, r .high, omega arith, subst (λ (l : ℕ). 1 ≤ l) (sym (p .halve2 .kept .1 .1 .1 .1 .1 .1 .1 .0)) (lit≤ tt), omega arith)
 
 slice-aggregate-put : tie.Need-slice-aggregate-put
 slice-aggregate-put c = search needs
 
 mul-put : tie.Need-mul-put
-mul-put c = let r = c .before .before .before .before .before .before .before .before .before .before .before .before .before .before .before .before .before .before .before .before .before .before .before .before .before .before .before .before .pre .0 in omega arith
+mul-put c = omega (arith, line-place (start2 (c .before .before .before .before .before .before .before .before .before) .pre .0))
 
 put-requires : tie.Need-put-requires
 put-requires c κs =
-    let r = c .before .before .before .before .before .before .before .before .before .before .before .before .before .before .before .before .before .before .before .before .before .before .before .before .before .before .before .before .pre .0 in
-    (subst (λ (k : ℕ). 4 ≤ k) (sym (c .before .before .before .zeroth .kept .1 .1 .1 .0 ∙ c .before .before .before .before .before .before .before .before .odds2 .kept .1 .1 .1 .1 .1 .0 ∙ c .before .before .before .before .before .before .before .before .before .before .before .before .before .before .before .before .before .before .before .odds .kept .1 .1 .1 .1 .1 .0)) (lit≤ tt), omega arith)
+    let p = c .before .before .before .before .before .before .before .before .before in
+    (subst (λ (l : ℕ). 4 ≤ l) (sym (c .before .before .before .zeroth .kept .1 .1 .1 .0)) (done2 p .long), start2 p .pre .0 .dst)
 
 same-length : tie.Need-same-length
 same-length c = search needs
 
 returns : tie.Need-returns
 returns c =
-    let a = c .before .before .before .before .before .before .before .before .before .before .before .before .before .before .before .before .before .before .before .before .before .before .before .before .before .before .before .before .before .before .args in
-    let k = lent-rows 4 (lit< tt) (lit≤ tt) (c .before .before .before .before .before .before .before .before .before .before .before .before .before .before .before .before .before .before .before .before .before .before .before .before .before .before .before .before .before .before .pre .1) in
-    let p0 = begin 4 (a .shift) (a .src .now) (a .j) (a .line) zeros (lit≤ tt) in
-    let p1 = stage 4 2 1 refl (lit< tt) (mirror 1 (lit< tt)) k p0 (c .before .before .before .before .before .before .before .before .before .before .before .before .before .before .before .before .before .before .before .before .before .before .before .before .before .before .before .fold .ensures) (c .before .before .before .before .before .before .before .before .before .before .before .before .before .before .before .before .before .before .before .before .before .odds .ensures) in
-    let p2 = stage 4 1 2 refl (lit< tt) (mirror 0 (lit< tt)) k p1 (c .before .before .before .before .before .before .before .before .before .before .before .before .before .before .before .before .fold2 .ensures) (c .before .before .before .before .before .before .before .before .before .before .odds2 .ensures) in
-    dct-line 4 (a .shift) (a .line) (a .j) (a .j) (a .src .now) (a .dst .now) (finish 4 (lit< tt) k p2 (c .before .before .before .before .before .zeroth .ensures)) (c .before .put .ensures)
+    let p = c .before .before .before .before .before .before .before .before .before .before .before in
+    let a = start2 p .args in
+    dct-line 4 (a .shift) (a .line) (a .j) (a .j) (a .src .now) (a .dst .now) (finish 4 (lit< tt) (table (start2 p)) (done2 p) (c .before .before .before .before .before .zeroth .ensures)) (c .before .put .ensures)
 
 pub dct4-line-spec : {M : Type 1} → statement M
 dct4-line-spec =
     tie.close
     (tie.spec
-    slice-aggregate-fold
-    slice-aggregate-fold-2
-    fold-requires
-    slice-aggregate-odds
-    slice-aggregate-odds-2
-    odds-requires
-    slice-aggregate-fold-3
-    slice-aggregate-fold-4
-    slice-aggregate-fold-5
-    fold-requires-2
-    slice-aggregate-odds-3
-    slice-aggregate-odds-4
-    odds-requires-2
+    slice-aggregate-halve
+    slice-aggregate-halve-2
+    halve-requires
+    slice-aggregate-halve-3
+    slice-aggregate-halve-4
+    slice-aggregate-halve-5
+    halve-requires-2
     slice-aggregate-zeroth
     slice-aggregate-zeroth-2
     zeroth-requires

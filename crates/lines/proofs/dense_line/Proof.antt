@@ -1,13 +1,10 @@
 -- `lines::dense_line` meets its contract. Assumes nothing.
-use mathlib.Core.Path.{_≡_, sym, _∙_, subst}
+use mathlib.Core.Path.{sym, subst}
 use mathlib.Core.List.{List, [], _∷_}
-use Prim.Native.Nat.{ℕ, _+_, _*_, _≤_}
-use native.Mathlib.Nat.{mul-comm}
+use Prim.Native.Nat.{ℕ, _≤_}
 use native.Mathlib.Omega.{arith}
 use borrow.Author.Needs.{needs}
-use lib.Dec.{lit≤}
 use lib.IntN.{ℤ, pos}
-use Rattle.lines.specs.Room.{LineRoom}
 use Rattle.lines.proofs.Line.{line-place, dense-reach, adst-line}
 use Rattle.lines.proofs.dense_line.Statement.{statement}
 use Rattle.lines.proofs.dense_line.Tie as tie

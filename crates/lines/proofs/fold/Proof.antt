@@ -1,5 +1,5 @@
 -- `lines::fold` meets its contract: after k turns k sums and k differences are stored. Assumes nothing.
-use mathlib.Core.Path.{_≡_, refl, ap, ap₂, _∙_}
+use mathlib.Core.Path.{refl, ap, ap₂, _∙_}
 use Prim.Native.Nat.{ℕ, _+_, _*_, _-_, _≤_, _<_}
 use native.Mathlib.Omega.{arith}
 use borrow.Author.Needs.{needs}
@@ -9,7 +9,7 @@ use lib.ListN.{getD}
 use Rattle.laws.specs.Integer.{wrap32}
 use Rattle.laws.proofs.Store.{Stored, stored-none, stored-turn, stored-all, stored-length, stores-in}
 use Rattle.fixed.proofs.Machine.{read-32}
-use Rattle.lines.specs.Line.{lineAt, sumOf, diffOf, Butterfly}
+use Rattle.lines.specs.Line.{lineAt, sumOf, diffOf}
 use Rattle.lines.proofs.fold.Statement.{statement}
 use Rattle.lines.proofs.fold.Tie as tie
 

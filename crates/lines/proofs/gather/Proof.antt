@@ -1,5 +1,5 @@
 -- `lines::gather` meets its contract. Assumes nothing.
-use mathlib.Core.Path.{_≡_, refl, ap, _∙_}
+use mathlib.Core.Path.{refl, ap, _∙_}
 use mathlib.Core.List.{List}
 use Prim.Native.Nat.{ℕ, _+_, _*_, _-_, _≤_, _<_}
 use native.Mathlib.Omega.{arith}
@@ -8,7 +8,7 @@ use lib.IntN.{ℤ, pos}
 use lib.ListN.{getD}
 use Rattle.laws.proofs.Store.{Stored, stored-none, stored-turn, stored-all, stored-length, stores-in}
 use Rattle.fixed.proofs.Machine.{read-32}
-use Rattle.lines.specs.Line.{lineAt, Gathered}
+use Rattle.lines.specs.Line.{lineAt}
 use Rattle.lines.proofs.gather.Statement.{statement}
 use Rattle.lines.proofs.gather.Tie as tie
 

@@ -1,5 +1,5 @@
 -- `lines::put` meets its contract. Assumes nothing.
-use mathlib.Core.Path.{_≡_, refl}
+use mathlib.Core.Path.{refl}
 use Prim.Native.Nat.{_-_, _≤_}
 use native.Mathlib.Omega.{arith}
 use Rattle.laws.proofs.Store.{Stored, stored-none, stored-turn, stored-all, stored-length}

@@ -1,7 +1,6 @@
 -- `passes::adst_lines` meets its contract: after j turns j lines are written. Assumes nothing.
 use Prim.Native.Nat.{_-_, _≤_}
 use native.Mathlib.Omega.{arith}
-use borrow.Author.Needs.{needs}
 use Rattle.lines.proofs.Loop.{Written, none-yet, one-more, same-long, next-line, all-lines, line-0, stored-0}
 use Rattle.passes.proofs.adst_lines.Statement.{statement}
 use Rattle.passes.proofs.adst_lines.Tie as tie

@@ -1,7 +1,7 @@
 -- `passes::dct_line` meets its contract: the loop over the stages, generally over the side. Assumes nothing.
 use mathlib.Core.Path.{_≡_, refl, sym, _∙_, subst}
 use mathlib.Core.List.{List, [], _∷_}
-use Prim.Native.Nat.{ℕ, _*_, _/_, _≤_, _<_}
+use Prim.Native.Nat.{_*_, _/_}
 use native.Mathlib.Nat.{mul-one}
 use native.Mathlib.Omega.{arith}
 use borrow.Author.Needs.{needs}
@@ -9,17 +9,17 @@ use lib.Dec.{lit<}
 use lib.IntN.{ℤ, pos}
 use lib.ListN.{length}
 use Rattle.lines.proofs.Line.{dct-line, line-place}
-use Rattle.lines.proofs.Reach.{odds-reach}
+use Rattle.lines.proofs.Reach.{halving}
 use Rattle.lines.proofs.Stage.{IsKernel, finish}
 use Rattle.passes.proofs.Going.{Going, whole-table, going-start, turn, going-next, going-end}
 use Rattle.passes.proofs.dct_line.Statement.{statement}
 use Rattle.passes.proofs.dct_line.Tie as tie
 
 abbrev Inv-loop : tie.InvT-loop
-Inv-loop n t line j src dst shift fs o₀ x₀ s₀ d₀ m₀ step₀ o x s d m step = Going n m step shift src j line x o × (length x ≡ 32) × (length s ≡ 32) × (length d ≡ 32) × (length o ≡ 32)
+Inv-loop n t line j src dst shift fs o₀ x₀ s₀ m₀ step₀ o x s m step = Going n m step shift src j line x o × (length x ≡ 32) × (length s ≡ 32) × (length o ≡ 32)
 
 abbrev μ-loop : tie.MeasureT-loop
-μ-loop n t line j src dst shift fs o₀ x₀ s₀ d₀ m₀ step₀ o x s d m step = m
+μ-loop n t line j src dst shift fs o₀ x₀ s₀ m₀ step₀ o x s m step = m
 
 abbrev zeros : List ℤ
 zeros = pos 0 ∷ pos 0 ∷ pos 0 ∷ pos 0 ∷ pos 0 ∷ pos 0 ∷ pos 0 ∷ pos 0 ∷ pos 0 ∷ pos 0 ∷ pos 0 ∷ pos 0 ∷ pos 0 ∷ pos 0 ∷ pos 0 ∷ pos 0 ∷ pos 0 ∷ pos 0 ∷ pos 0 ∷ pos 0 ∷ pos 0 ∷ pos 0 ∷ pos 0 ∷ pos 0 ∷ pos 0 ∷ pos 0 ∷ pos 0 ∷ pos 0 ∷ pos 0 ∷ pos 0 ∷ pos 0 ∷ pos 0 ∷ []
@@ -42,82 +42,61 @@ gather-requires c κs =
 loop-holds : tie.Need-loop-holds Inv-loop μ-loop
 loop-holds c =
     let p = c .before .before .before .pre in
-    (going-start zeros (p .1) (c .before .gather .ensures) (p .0 .side), c .before .gather .kept .1 .1 .1 .1 .0, refl, refl, refl)
+    (going-start zeros (p .1) (c .before .gather .ensures) (p .0 .side), c .before .gather .kept .1 .1 .1 .1 .0, refl, refl)
 
-slice-aggregate-fold : tie.Need-slice-aggregate-fold Inv-loop μ-loop
-slice-aggregate-fold c = sym (c .before .before .loop .inv .1)
+slice-aggregate-halve : tie.Need-slice-aggregate-halve Inv-loop μ-loop
+slice-aggregate-halve c = sym (c .before .before .before .loop .inv .1)
 
-slice-aggregate-fold-2 : tie.Need-slice-aggregate-fold-2 Inv-loop μ-loop
-slice-aggregate-fold-2 c = sym (c .before .before .before .loop .inv .2)
+slice-aggregate-halve-2 : tie.Need-slice-aggregate-halve-2 Inv-loop μ-loop
+slice-aggregate-halve-2 c = sym (c .before .before .before .before .loop .inv .2)
 
-slice-aggregate-fold-3 : tie.Need-slice-aggregate-fold-3 Inv-loop μ-loop
-slice-aggregate-fold-3 c = sym (c .before .before .before .before .loop .inv .3)
+slice-aggregate-halve-3 : tie.Need-slice-aggregate-halve-3 Inv-loop μ-loop
+slice-aggregate-halve-3 c = sym (c .before .before .before .before .before .loop .inv .3)
 
-fold-requires : tie.Need-fold-requires Inv-loop μ-loop
-fold-requires c κs =
-    let i = c .before .before .before .before .loop .inv in
-    let r = c .before .before .before .before .before .before .before .before .pre .0 in
-    let u = turn (i .0) (r .some) (r .side) (c .before .before .before .loop-test .taken) in
+halve-requires : tie.Need-halve-requires Inv-loop μ-loop
+halve-requires c κs =
+    let l = c .before .before .before .before .before .loop in
+    let p = c .before .before .before .before .before .before .before .before .before in
+    let r = p .pre .0 in
+    let u = turn (l .inv .0) (r .some) (r .side) (c .before .before .before .before .loop-test .taken) in
     let w = u .whole in
-    (omega arith, lit< tt, omega (arith, mul-one (2 * (c .before .before .before .before .loop .m / 2))), omega arith, omega arith)
-
-slice-aggregate-odds : tie.Need-slice-aggregate-odds Inv-loop μ-loop
-slice-aggregate-odds c = sym (c .before .before .before .before .fold .kept .1 .1 .1 .1 .1 .0 ∙ c .before .before .before .before .before .before .before .before .before .loop .inv .3)
-
-slice-aggregate-odds-2 : tie.Need-slice-aggregate-odds-2 Inv-loop μ-loop
-slice-aggregate-odds-2 c = sym (c .before .before .before .before .before .before .before .before .before .before .loop .inv .4)
-
-odds-requires : tie.Need-odds-requires Inv-loop μ-loop
-odds-requires c κs =
-    let l = c .before .before .before .before .before .before .before .before .before .before .loop in
-    let r = c .before .before .before .before .before .before .before .before .before .before .before .before .before .before .pre .0 in
-    let u = turn (l .inv .0) (r .some) (r .side) (c .before .before .before .before .before .before .before .before .before .loop-test .taken) in
-    let w = u .whole in
-    let d = c .before .before .before .before .before .fold .kept .1 .1 .1 .1 .1 .0 ∙ l .inv .3 in (
-      u .step-small,
-      r .low,
-      r .high,
-      odds-reach (c .before .before .before .before .before .before .before .before .before .before .before .before .before .before .args .n) (l .m / 2) (l .step) (u .product) (u .some) (u .step-some) (table (c .before .before .before .before .before .before .before .before .before .before .before .before .before .before)) (omega arith) (omega (arith, l .inv .4)),
-    )
+    halving (p .args .n) (l .m / 2) (l .step) (u .product) (r .side) (u .some) (u .step-some) (table p) (r .low) (r .high) (lit< tt)
+    (omega (arith, l .inv .1, u .few, mul-one (2 * (l .m / 2)))) (omega (arith, l .inv .2, u .few)) (omega (arith, l .inv .3))
 
 mul-step : tie.Need-mul-step Inv-loop μ-loop
 mul-step c =
-    let l = c .before .before .before .before .before .before .before .before .before .before .before .before .loop in
-    let r = c .before .before .before .before .before .before .before .before .before .before .before .before .before .before .before .before .pre .0 in
-    let u = turn (l .inv .0) (r .some) (r .side) (c .before .before .before .before .before .before .before .before .before .before .before .loop-test .taken) in
-    omega arith
+    let l = c .before .before .before .before .before .before .before .before .loop in
+    let r = c .before .before .before .before .before .before .before .before .before .before .before .before .pre .0 in
+    let u = turn (l .inv .0) (r .some) (r .side) (c .before .before .before .before .before .before .before .loop-test .taken) in
+    omega (arith, u .step-small)
 
 loop-less : tie.Need-loop-less Inv-loop μ-loop
 loop-less c = omega arith
 
 loop-again : tie.Need-loop-again Inv-loop μ-loop
 loop-again c =
-    let l = c .before .before .before .before .before .before .before .before .before .before .before .before .loop in
-    let r = c .before .before .before .before .before .before .before .before .before .before .before .before .before .before .before .before .pre .0 in
-    let f = c .before .before .before .before .before .before .before .fold in
-    let o = c .before .odds in (
-      going-next (l .inv .0) (r .some) (r .side) (c .before .before .before .before .before .before .before .before .before .before .before .loop-test .taken) (table (c .before .before .before .before .before .before .before .before .before .before .before .before .before .before .before .before)) (f .ensures) (o .ensures),
-      f .kept .1 .1 .1 .1 .0 ∙ l .inv .2,
-      f .kept .1 .1 .1 .1 .0 ∙ l .inv .2,
-      f .kept .1 .1 .1 .1 .1 .0 ∙ l .inv .3,
-      o .kept .1 .1 .1 .1 .1 .0 ∙ l .inv .4,
-    )
+    let l = c .before .before .before .before .before .before .before .before .loop in
+    let p = c .before .before .before .before .before .before .before .before .before .before .before .before in
+    let r = p .pre .0 in
+    let v = c .before .before .halve in
+    let s = v .kept .1 .1 .1 .1 .1 .1 .1 .0 ∙ l .inv .2 in
+    (going-next (l .inv .0) (r .some) (r .side) (c .before .before .before .before .before .before .before .loop-test .taken) (table p) (v .ensures), s, s, v .kept .1 .1 .1 .1 .1 .1 .1 .1 .0 ∙ l .inv .3)
 
 slice-aggregate-zeroth : tie.Need-slice-aggregate-zeroth Inv-loop μ-loop
 slice-aggregate-zeroth c = sym (c .before .before .before .loop .inv .1)
 
 slice-aggregate-zeroth-2 : tie.Need-slice-aggregate-zeroth-2 Inv-loop μ-loop
-slice-aggregate-zeroth-2 c = sym (c .before .before .before .before .loop .inv .4)
+slice-aggregate-zeroth-2 c = sym (c .before .before .before .before .loop .inv .3)
 
 zeroth-requires : tie.Need-zeroth-requires Inv-loop μ-loop
 zeroth-requires c κs =
     let l = c .before .before .before .before .loop in
     let p = c .before .before .before .before .before .before .before .before .pre in
     let t = table (c .before .before .before .before .before .before .before .before) .inside 0 0 (p .0 .some) (p .0 .some) in
-    (p .0 .low, p .0 .high, omega arith, omega (arith, l .inv .1), omega (arith, l .inv .4))
+    (p .0 .low, p .0 .high, omega arith, omega (arith, l .inv .1), omega (arith, l .inv .3))
 
 slice-aggregate-put : tie.Need-slice-aggregate-put Inv-loop μ-loop
-slice-aggregate-put c = sym (c .before .before .zeroth .kept .1 .1 .1 .0 ∙ c .before .before .before .before .before .before .before .loop .inv .4)
+slice-aggregate-put c = sym (c .before .before .zeroth .kept .1 .1 .1 .0 ∙ c .before .before .before .before .before .before .before .loop .inv .3)
 
 mul-put : tie.Need-mul-put Inv-loop μ-loop
 mul-put c = omega (arith, line-place (c .before .before .before .before .before .before .before .before .before .before .before .before .pre .0))
@@ -126,7 +105,7 @@ put-requires : tie.Need-put-requires Inv-loop μ-loop
 put-requires c κs =
     let p = c .before .before .before .before .before .before .before .before .before .before .before .before .pre .0 in
     let s = p .side in
-    let o = c .before .before .before .zeroth .kept .1 .1 .1 .0 ∙ c .before .before .before .before .before .before .before .before .loop .inv .4 in
+    let o = c .before .before .before .zeroth .kept .1 .1 .1 .0 ∙ c .before .before .before .before .before .before .before .before .loop .inv .3 in
     (omega arith, p .dst)
 
 same-length : tie.Need-same-length Inv-loop μ-loop
@@ -150,13 +129,10 @@ dct-line-spec =
     slice-aggregate-gather
     gather-requires
     loop-holds
-    slice-aggregate-fold
-    slice-aggregate-fold-2
-    slice-aggregate-fold-3
-    fold-requires
-    slice-aggregate-odds
-    slice-aggregate-odds-2
-    odds-requires
+    slice-aggregate-halve
+    slice-aggregate-halve-2
+    slice-aggregate-halve-3
+    halve-requires
     mul-step
     loop-less
     loop-again

@@ -1,6 +1,6 @@
 -- `sizes::dc_tx_scale` meets its contract. Assumes nothing.
 use mathlib.Core.Path.{_≡_, sym, ap₂, _∙_}
-use mathlib.Core.Bool.{true, false, _&&_, not}
+use mathlib.Core.Bool.{_&&_, not}
 use Prim.Native.Nat.{_+_}
 use native.Mathlib.Omega.{arith}
 use borrow.Author.Needs.{needs}

@@ -1,11 +1,10 @@
 -- `mizdrek::levels::mizdrek_quantize_one` meets its contract: each arm by what the call it wraps said. Assumes nothing.
-use mathlib.Core.Path.{_≡_, refl, sym, ap, _∙_}
+use mathlib.Core.Path.{_≡_, sym, ap, _∙_}
 use borrow.Author.Needs.{needs}
-use lib.IntN.{ℤ}
-use lib.Ieee.{Float, ofBits}
+use lib.Ieee.{ofBits}
 use mir.Facts.{toZ-ofZ}
 use Rattle.quant.specs.Place.{Said, said, oneAnswer}
-use Rattle.quant.specs.declared.Quantized.the-variants.{Refused, At}
+use Rattle.quant.specs.declared.Quantized.the-variants.{At}
 use Rattle.mizdrek.specs.Levels.{card, signedOne, levelGiven, magnitudeGiven}
 use Rattle.mizdrek.proofs.levels.mizdrek_quantize_one.Statement.{statement}
 use Rattle.mizdrek.proofs.levels.mizdrek_quantize_one.Tie as tie

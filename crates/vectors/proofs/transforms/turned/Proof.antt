@@ -1,5 +1,5 @@
 -- `vectors::transforms::turned` meets its contract. Assumes nothing.
-use Prim.Native.Nat.{_*_, _%_, _/_, _≤_}
+use Prim.Native.Nat.{_*_, _%_, _≤_}
 use borrow.Author.Needs.{needs}
 use native.Mathlib.Nat.{le-trans, mod-le, div-le-self, mul-le-mul}
 use native.Mathlib.Omega.{arith}
