@@ -8,7 +8,8 @@ ghost use Prim.Native.Nat.{_≤_};
 ghost use lib.ListN.{length};
 
 pub fn step(numbers: &[u64]) -> bool {
-    quant::qstep(record::unsigned(numbers, 0)) == record::unsigned(numbers, 1)
+    (numbers.len() == 2)
+        & (quant::qstep(record::unsigned(numbers, 0)) == record::unsigned(numbers, 1))
 }
 
 // The float of these bits; 0 where they are no number's.
@@ -114,14 +115,16 @@ pub fn levels(numbers: &[u64]) -> bool {
     let outcome = call_levels(numbers, &coefficients, &scan, &mut levels, &mut magnitudes);
     let answer = answer_place(numbers);
     let written = record::answered(numbers, answer);
-    record::is_answer(numbers, answer, outcome)
+    (numbers.len() == answer + 1 + 2 * written)
+        & record::is_answer(numbers, answer, outcome)
         & is_same(numbers, answer + 1, written, &levels)
         & is_same(numbers, answer + 1 + written, written, &magnitudes)
 }
 
 // Whether a place is kept (1) or dropped (0) with these numbers; a dropped place has level +0.0.
 fn is_place(numbers: &[u64], kept: u64, level: f32, magnitude: f32) -> bool {
-    (record::size(numbers, 5) == kept)
+    (numbers.len() == 8)
+        & (record::size(numbers, 5) == kept)
         & has_bits(level, record::unsigned(numbers, 6))
         & has_bits(magnitude, record::unsigned(numbers, 7))
 }

@@ -6,6 +6,7 @@ ghost use lib.ListN.{length};
 pub struct Record {
     pub ok: bool,
     pub kind: u64,
+    pub count: usize,
     pub end: usize,
 }
 
@@ -16,7 +17,9 @@ fn code(minus: bool, size: u64) -> u64
 }
 
 // The record from at on, its numbers at the start of the array.
-pub fn read(list: &[u8], at: usize, numbers: &mut [u64]) -> Record {
+pub fn read(list: &[u8], at: usize, numbers: &mut [u64]) -> Record
+    ensures { λ r. ⌜ r .count ≤ length (now (numbers .entry)) ⌝ }
+{
     let kind = text::next_word(list, at);
     let count = text::next_word(list, kind.next);
     let left = count.size;
@@ -28,6 +31,7 @@ pub fn read(list: &[u8], at: usize, numbers: &mut [u64]) -> Record {
             return Record {
                 ok,
                 kind: kind.size,
+                count: i,
                 end,
             };
         }
@@ -40,6 +44,7 @@ pub fn read(list: &[u8], at: usize, numbers: &mut [u64]) -> Record {
     Record {
         ok: false,
         kind: kind.size,
+        count: 0,
         end,
     }
 }

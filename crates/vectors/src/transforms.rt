@@ -54,6 +54,9 @@ fn is_turned(numbers: &[u64], side: usize, n: usize, got: &[i32]) -> bool
     if n > 1024 {
         return false;
     }
+    if numbers.len() != 2 + n {
+        return false;
+    }
     let mut i: usize = 0;
     while i < n {
         if at(got, turned(i, side)) != record::signed(numbers, 2 + i) {
@@ -74,12 +77,14 @@ pub fn shifts(numbers: &[u64]) -> bool {
         return false;
     }
     let shifts = sizes::fwd_shifts(w, h);
-    (shifts.first == record::unsigned(numbers, 2)) & (shifts.second == record::unsigned(numbers, 3))
+    (numbers.len() == 4)
+        & (shifts.first == record::unsigned(numbers, 2))
+        & (shifts.second == record::unsigned(numbers, 3))
 }
 
 pub fn scale(numbers: &[u64]) -> bool {
     let outcome = sizes::dc_tx_scale(record::count(numbers, 0), record::count(numbers, 1));
-    record::is_answer(numbers, 2, outcome)
+    (numbers.len() == 3) & record::is_answer(numbers, 2, outcome)
 }
 
 // The call of a record, on buffers of its lengths.
@@ -105,7 +110,8 @@ pub fn pass(numbers: &[u64]) -> bool {
     let outcome = call_pass(numbers, &src, &mut dst);
     let answer = 6 + record::count(numbers, 4);
     let written = record::answered(numbers, answer);
-    record::is_answer(numbers, answer, outcome)
+    (numbers.len() == answer + 1 + written)
+        & record::is_answer(numbers, answer, outcome)
         & record::is_same(numbers, answer + 1, written, &dst)
 }
 
@@ -139,7 +145,8 @@ pub fn block(numbers: &[u64]) -> bool {
     let outcome = call_block(numbers, &residuals, &mut scratch, &mut output);
     let answer = 7 + record::count(numbers, 4);
     let written = record::answered(numbers, answer);
-    record::is_answer(numbers, answer, outcome)
+    (numbers.len() == answer + 1 + 2 * written)
+        & record::is_answer(numbers, answer, outcome)
         & record::is_same(numbers, answer + 1, written, &scratch)
         & record::is_same(numbers, answer + 1 + written, written, &output)
 }
@@ -159,6 +166,7 @@ pub fn wht(numbers: &[u64]) -> bool {
     let outcome = call_wht(numbers, &residuals, &mut output);
     let answer = 2 + record::count(numbers, 0);
     let written = record::answered(numbers, answer);
-    record::is_answer(numbers, answer, outcome)
+    (numbers.len() == answer + 1 + written)
+        & record::is_answer(numbers, answer, outcome)
         & record::is_same(numbers, answer + 1, written, &output)
 }

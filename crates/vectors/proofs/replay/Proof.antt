@@ -1,8 +1,10 @@
 -- `vectors::replay` meets its contract. Assumes nothing.
-use mathlib.Core.Path.{_≡_}
+use mathlib.Core.Path.{_≡_, sym}
+use native.Mathlib.Omega.{arith}
 use borrow.Author.Needs.{needs}
 use Prim.Native.Nat.{_≤_, _-_}
 use lib.ListN.{length}
+use lib.Seq.{length-take-le}
 use Rattle.vectors.proofs.replay.Statement.{statement}
 use Rattle.vectors.proofs.replay.Tie as tie
 
@@ -33,8 +35,13 @@ read-requires c κs = search needs
 add-count : tie.Need-add-count Inv-loop μ-loop
 add-count c = search needs
 
+array-share-prefix-numbers : tie.Need-array-share-prefix-numbers Inv-loop μ-loop
+array-share-prefix-numbers c = let r = c .before .before .read in omega (arith, r .ensures, r .kept)
+
 slice-aggregate-is-same : tie.Need-slice-aggregate-is-same Inv-loop μ-loop
-slice-aggregate-is-same c = search needs
+slice-aggregate-is-same c =
+    let r = c .before .before .before .read in
+    sym (length-take-le (r .result .count) (r .last .1 .1 .0) (omega (arith, r .ensures, r .kept)))
 
 is-same-requires : tie.Need-is-same-requires Inv-loop μ-loop
 is-same-requires c κs = search needs
@@ -73,6 +80,7 @@ replay-spec =
     slice-aggregate-read
     read-requires
     add-count
+    array-share-prefix-numbers
     slice-aggregate-is-same
     is-same-requires
     print-differs-requires
