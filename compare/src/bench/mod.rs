@@ -4,6 +4,7 @@ mod batches;
 mod blocks;
 mod passes;
 mod quant;
+mod refused;
 mod timing;
 mod wht;
 
@@ -20,6 +21,7 @@ pub const GROUPS: &[Group] = &[
     Group { name: "tickets", rows: batches::rows },
     Group { name: "wht", rows: wht::rows },
     Group { name: "quant", rows: quant::rows },
+    Group { name: "refused", rows: refused::rows },
 ];
 
 /// Times the named groups, or all.

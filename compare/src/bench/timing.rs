@@ -19,6 +19,13 @@ pub fn row(label: &str, mut rust: impl FnMut(), mut ours: impl FnMut()) {
     println!("{label:34} {rust:>10.1} {ours:>10.1} {ratio:>6.2}");
 }
 
+/// Times ours alone, where the Rust has nothing to compare with.
+pub fn alone(label: &str, mut ours: impl FnMut()) {
+    let turns = turns(&mut ours);
+    let ours = median((0..ROUNDS).map(|_| time(turns, &mut ours)));
+    println!("{label:34} {:>10} {ours:>10.1}", "");
+}
+
 /// How many calls take about one round.
 fn turns(call: &mut impl FnMut()) -> u32 {
     let mut turns = 1;
