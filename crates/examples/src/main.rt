@@ -1,5 +1,5 @@
 // Document 01's entries under "Frames on the light table" that aren't marked P, run: a line for each. Those marked P are the list of
-// specs/Examples.antt.
+// specs/Examples.antt. And a list of batches, played.
 use answer::Outcome;
 use quant::Settings;
 use text::print_text;
@@ -67,6 +67,42 @@ fn column_batch(entry: &[u8], w: usize, start: usize, lines: usize) {
     print_outcome(entry, outcome);
 }
 
+// What a batch of a list gave back.
+fn print_answer(n: i64) {
+    print_text(b" ");
+    text::print_signed(text::narrow(n));
+}
+
+// A list of batches of an 8×8 block of ones: rows before the columns, all columns, three rows, and all rows.
+fn list() {
+    let residuals = [1i32; 64];
+    let mut scratch = [0i32; 64];
+    let mut output = [0i32; 64];
+    let mut answered = [0i64; 4];
+    let opened = tickets::open(8, 8, 0, 0, &residuals, &scratch, &output);
+    let ticket = opened.ticket;
+    let played = tickets::play(
+        ticket,
+        &residuals,
+        &mut scratch,
+        &mut output,
+        &[1u32, 0, 1, 1],
+        &[0usize, 0, 0, 0],
+        &[8usize, 8, 3, 8],
+        &mut answered,
+    );
+    let outcome = played.outcome;
+    print_outcome(b"8x8, a list of batches", outcome);
+    print_text(b"8x8, each batch:");
+    print_answer(answered[0]);
+    print_answer(answered[1]);
+    print_answer(answered[2]);
+    print_answer(answered[3]);
+    print_text(b"; first ");
+    text::print_signed(output[0]);
+    print_text(b"\n");
+}
+
 fn main() {
     blocks();
     // "Step 0: number 7. Step 1: accepted."
@@ -78,4 +114,5 @@ fn main() {
     column_batch(b"4 lines, a batch of 8 from 0", 4, 0, 8);
     column_batch(b"32 lines, a batch of 8 from 28", 32, 28, 8);
     column_batch(b"32 lines, a batch of 4 from 28", 32, 28, 4);
+    list();
 }

@@ -7,7 +7,7 @@ ghost use Rattle.laws.specs.Integer.{wrap32};
 ghost use Rattle.fixed.specs.Fixed.{roundShift, scaled};
 
 // The low 32 bits of x, read as signed.
-pub fn wrap(x: i64) -> i32
+fn wrap(x: i64) -> i32
     ensures { λ r. ⌜ r ≡ wrap32 x ⌝ }
 {
     ((x << 32) >> 32) as i32

@@ -86,7 +86,7 @@ fn dct32_line(t: &[i8; 1024], line: usize, j: usize, src: &[i32], dst: &mut [i32
     lines::put(32, &o, dst, j * 32);
 }
 
-pub fn fdct4_1d(shift: u32, line: usize, start: usize, count: usize, src: &[i32], dst: &mut [i32])
+fn fdct4_1d(shift: u32, line: usize, start: usize, count: usize, src: &[i32], dst: &mut [i32])
     requires { ⌜ Room 4 line start count shift (length (now src)) (length (now dst)) ⌝ }
     ensures { λ _. ⌜ now (dst .exit) ≡ passLines 0 4 shift line (now (src .entry)) start count (now (dst .entry)) ⌝ }
 {
@@ -98,7 +98,7 @@ pub fn fdct4_1d(shift: u32, line: usize, start: usize, count: usize, src: &[i32]
     }
 }
 
-pub fn fdct8_1d(shift: u32, line: usize, start: usize, count: usize, src: &[i32], dst: &mut [i32])
+fn fdct8_1d(shift: u32, line: usize, start: usize, count: usize, src: &[i32], dst: &mut [i32])
     requires { ⌜ Room 8 line start count shift (length (now src)) (length (now dst)) ⌝ }
     ensures { λ _. ⌜ now (dst .exit) ≡ passLines 0 8 shift line (now (src .entry)) start count (now (dst .entry)) ⌝ }
 {
@@ -122,7 +122,7 @@ pub fn fdct8_1d(shift: u32, line: usize, start: usize, count: usize, src: &[i32]
     }
 }
 
-pub fn fdct16_1d(shift: u32, line: usize, start: usize, count: usize, src: &[i32], dst: &mut [i32])
+fn fdct16_1d(shift: u32, line: usize, start: usize, count: usize, src: &[i32], dst: &mut [i32])
     requires { ⌜ Room 16 line start count shift (length (now src)) (length (now dst)) ⌝ }
     ensures { λ _. ⌜ now (dst .exit) ≡ passLines 0 16 shift line (now (src .entry)) start count (now (dst .entry)) ⌝ }
 {
@@ -134,7 +134,7 @@ pub fn fdct16_1d(shift: u32, line: usize, start: usize, count: usize, src: &[i32
     }
 }
 
-pub fn fdct32_1d(shift: u32, line: usize, start: usize, count: usize, src: &[i32], dst: &mut [i32])
+fn fdct32_1d(shift: u32, line: usize, start: usize, count: usize, src: &[i32], dst: &mut [i32])
     requires { ⌜ Room 32 line start count shift (length (now src)) (length (now dst)) ⌝ }
     ensures { λ _. ⌜ now (dst .exit) ≡ passLines 0 32 shift line (now (src .entry)) start count (now (dst .entry)) ⌝ }
 {
@@ -146,7 +146,7 @@ pub fn fdct32_1d(shift: u32, line: usize, start: usize, count: usize, src: &[i32
     }
 }
 
-pub fn fadst4_1d(shift: u32, line: usize, start: usize, count: usize, src: &[i32], dst: &mut [i32])
+fn fadst4_1d(shift: u32, line: usize, start: usize, count: usize, src: &[i32], dst: &mut [i32])
     requires { ⌜ Room 4 line start count shift (length (now src)) (length (now dst)) ⌝ }
     ensures { λ _. ⌜ now (dst .exit) ≡ passLines 1 4 shift line (now (src .entry)) start count (now (dst .entry)) ⌝ }
 {
@@ -159,7 +159,7 @@ pub fn fadst4_1d(shift: u32, line: usize, start: usize, count: usize, src: &[i32
     }
 }
 
-pub fn fadst8_1d(shift: u32, line: usize, start: usize, count: usize, src: &[i32], dst: &mut [i32])
+fn fadst8_1d(shift: u32, line: usize, start: usize, count: usize, src: &[i32], dst: &mut [i32])
     requires { ⌜ Room 8 line start count shift (length (now src)) (length (now dst)) ⌝ }
     ensures { λ _. ⌜ now (dst .exit) ≡ passLines 1 8 shift line (now (src .entry)) start count (now (dst .entry)) ⌝ }
 {
@@ -183,7 +183,7 @@ pub fn fadst8_1d(shift: u32, line: usize, start: usize, count: usize, src: &[i32
     }
 }
 
-pub fn fadst16_1d(shift: u32, line: usize, start: usize, count: usize, src: &[i32], dst: &mut [i32])
+fn fadst16_1d(shift: u32, line: usize, start: usize, count: usize, src: &[i32], dst: &mut [i32])
     requires { ⌜ Room 16 line start count shift (length (now src)) (length (now dst)) ⌝ }
     ensures { λ _. ⌜ now (dst .exit) ≡ passLines 1 16 shift line (now (src .entry)) start count (now (dst .entry)) ⌝ }
 {

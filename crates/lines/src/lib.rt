@@ -11,15 +11,7 @@ ghost use Rattle.lines.specs.Line.{rowSum, place, rounded, InReach, Butt
 
 // The sum of n products: the numbers of a table from row on, apart places apart, with those of a line that
 // begins at at and has a number every stride places.
-pub fn row_sum(
-    n: usize,
-    t: &[i8],
-    row: usize,
-    apart: usize,
-    x: &[i32],
-    at: usize,
-    stride: usize,
-) -> i32
+fn row_sum(n: usize, t: &[i8], row: usize, apart: usize, x: &[i32], at: usize, stride: usize) -> i32
     requires { ⌜ ((k : ℕ) → k < n → row + k * apart < length (now t)) ⌝ }
     requires { ⌜ ((k : ℕ) → k < n → k * stride + at < length (now x)) ⌝ }
     ensures { λ r. ⌜ r ≡ wrap32 (rowSum n (now (t .entry)) row apart (now (x .entry)) at stride) ⌝ }
@@ -37,7 +29,7 @@ pub fn row_sum(
 
 // The frequencies first, first + apart, .., count of them, of a line of taps numbers, rounded. Frequency f reads
 // the table from f × fs on, a number every ks places.
-pub fn frequencies(
+fn frequencies(
     count: usize,
     first: usize,
     apart: usize,

@@ -230,7 +230,7 @@ pub fn row_batch(
 }
 
 // A batch of either kind: a row batch or a column batch.
-pub fn any_batch(
+fn any_batch(
     ticket: Ticket,
     row: bool,
     residuals: &[i32],
