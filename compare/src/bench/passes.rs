@@ -1,6 +1,7 @@
-//! Passes over 32 lines: the call, the lane pass 8, 4 and 1 lines at a time, and the plain pass.
+//! Passes over 32 lines: the call, the lanes without it (less a call of no lines), the lane pass 8, 4 and 1 lines at a time, and the
+//! plain pass.
 
-use super::timing::row;
+use super::timing::{row, row_without};
 use crate::av2::fdct;
 use crate::mizdrek;
 use crate::oracle::{ADST, KERNELS};
@@ -25,6 +26,17 @@ pub fn rows() {
             let (side, kind, shift) = black_box((side, kind, SHIFT));
             let _ = black_box(mizdrek::pass(side, kind, shift, LINES, black_box(&src), black_box(&mut dst)));
         });
+        let lanes = |lines, dst: &mut [i32]| {
+            let (kernel, lines) = black_box(((side, kind, SHIFT), lines));
+            let _ = black_box(ours::lanes(kernel, (LINES, 0, lines), black_box(&src), black_box(dst)));
+        };
+        let mut rest = vec![0; side * LINES];
+        row_without(
+            &format!("{name}{side} lanes, less the call"),
+            &mut rust,
+            || lanes(LINES, &mut dst),
+            || lanes(0, &mut rest),
+        );
         for lanes in [8, 4, 1] {
             row(&format!("{name}{side} pass, lanes of {lanes}"), &mut rust, || {
                 let (kernel, lanes) = black_box(((side, kind, SHIFT), lanes));

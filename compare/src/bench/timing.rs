@@ -12,11 +12,24 @@ const ROUND: Duration = Duration::from_millis(1);
 pub fn row(label: &str, mut rust: impl FnMut(), mut ours: impl FnMut()) {
     let (rust_turns, our_turns) = (turns(&mut rust), turns(&mut ours));
     let rounds = (0..ROUNDS).map(|_| (time(rust_turns, &mut rust), time(our_turns, &mut ours)));
-    let rounds: Vec<(f64, f64)> = rounds.collect();
+    print(label, rounds.collect());
+}
+
+fn print(label: &str, rounds: Vec<(f64, f64)>) {
     let rust = median(rounds.iter().map(|round| round.0));
     let ours = median(rounds.iter().map(|round| round.1));
     let ratio = median(rounds.iter().map(|(rust, ours)| ours / rust));
     println!("{label:34} {rust:>10.1} {ours:>10.1} {ratio:>6.2}");
+}
+
+/// The same with the time of a part of ours left out, which is timed by itself.
+pub fn row_without(label: &str, mut rust: impl FnMut(), mut ours: impl FnMut(), mut part: impl FnMut()) {
+    let counts = (turns(&mut rust), turns(&mut ours), turns(&mut part));
+    let rounds = (0..ROUNDS).map(|_| {
+        let rust = time(counts.0, &mut rust);
+        (rust, time(counts.1, &mut ours) - time(counts.2, &mut part))
+    });
+    print(label, rounds.collect());
 }
 
 /// Times ours alone, where the Rust has nothing to compare with.

@@ -19,8 +19,7 @@ use Rattle.laws.proofs.Size.{subℕ-lt, subℕ-ge, pos-sub, mag-add, mag-sub, m
 use Rattle.laws.proofs.Divide.{floorDiv-law, floorDiv-exact, mag-floorDiv}
 use Rattle.laws.proofs.Congruence.{Cong, cong-refl, cong-sym, cong-trans, cong-mul}
 use Rattle.laws.proofs.Wrap.{wrap32-unique, wrap32-fits}
-use Rattle.fixed.specs.Fixed.{floorShift, half, roundShift}
-use Rattle.fixed.proofs.Round.{roundShift-fits}
+use Rattle.fixed.specs.Fixed.{floorShift, half}
 
 -- some bits, read as signed
 pub toZ-cong : (w : Width) (n : ℕ) → Fits w n → Cong (2 ^ bits w) (toZ w n) (pos n)
@@ -159,7 +158,3 @@ wide-8 z h = subst (λ (y : ℤ). SFits w32 y) (sym (read-at w8 z h)) (record { 
 
 pub read-8 : (z : ℤ) → mag z < 2 ^ 7 → toZ w32 (ofZ w32 (toZ w8 (ofZ w8 z))) ≡ z
 read-8 z h = ap (λ (y : ℤ). toZ w32 (ofZ w32 y)) (read-at w8 z h) ∙ read-32 z (lt-of-lt-of-le h (lit≤ tt))
-
--- a value that a contract says is a rounded shift, read back
-pub read-round : {r : ℤ} (s : ℕ) (z : ℤ) → r ≡ roundShift s z → toZ w32 (ofZ w32 r) ≡ r
-read-round {r} s z e = toZ-ofZ (subst (λ (y : ℤ). SFits w32 y) (sym e) (roundShift-fits s z))

@@ -66,10 +66,6 @@ below-half (fin false m e) p h =
     let small : m * up e * 2 < 1 * d = ltb-true (m * up e * 2) (1 * d) h in
     sym (ap (λ (n : ℕ). ofInt binary32 (pos n)) (div-eq-of-lt (omega (arith, one-mul d))) ∙ int-zero)
 
-one-is : ofInt binary32 (pos 1) ≡ roundOf one32
-unfolding roundOf
-one-is = refl
-
 pub below-one : (x : Float) → T (plain x) → lt x half32 ≡ false → lt x one32 ≡ true → roundOf one32 ≡ roundOf x
 unfolding lt roundOf
 below-one nan p h k = absurd p
