@@ -146,19 +146,6 @@ fn fdct32_1d(shift: u32, line: usize, start: usize, count: usize, src: &[i32], d
     }
 }
 
-fn fadst4_1d(shift: u32, line: usize, start: usize, count: usize, src: &[i32], dst: &mut [i32])
-    requires { ⌜ Room 4 line start count shift (length (now src)) (length (now dst)) ⌝ }
-    ensures { λ _. ⌜ now (dst .exit) ≡ passLines 1 4 shift line (now (src .entry)) start count (now (dst .entry)) ⌝ }
-{
-    let t = kernels::adst4();
-    let mut i: usize = 0;
-    while i < count {
-        let j = start + i;
-        lines::dense_line(4, &t, 4, 1, line, j, src, dst, j, shift);
-        i += 1;
-    }
-}
-
 fn fadst8_1d(shift: u32, line: usize, start: usize, count: usize, src: &[i32], dst: &mut [i32])
     requires { ⌜ Room 8 line start count shift (length (now src)) (length (now dst)) ⌝ }
     ensures { λ _. ⌜ now (dst .exit) ≡ passLines 1 8 shift line (now (src .entry)) start count (now (dst .entry)) ⌝ }
@@ -179,19 +166,6 @@ fn fadst8_1d(shift: u32, line: usize, start: usize, count: usize, src: &[i32], d
     while i < count {
         let j = start + i;
         lines::dense_line(8, &t, 1, 8, line, j, src, dst, j, shift);
-        i += 1;
-    }
-}
-
-fn fadst16_1d(shift: u32, line: usize, start: usize, count: usize, src: &[i32], dst: &mut [i32])
-    requires { ⌜ Room 16 line start count shift (length (now src)) (length (now dst)) ⌝ }
-    ensures { λ _. ⌜ now (dst .exit) ≡ passLines 1 16 shift line (now (src .entry)) start count (now (dst .entry)) ⌝ }
-{
-    let t = kernels::adst16();
-    let mut i: usize = 0;
-    while i < count {
-        let j = start + i;
-        lines::dense_line(16, &t, 16, 1, line, j, src, dst, j, shift);
         i += 1;
     }
 }
@@ -219,9 +193,31 @@ pub fn run(
         }
     } else {
         match side {
-            4 => fadst4_1d(shift, line, start, count, src, dst),
+            4 => lines::dense_lines(
+                4,
+                &kernels::adst4(),
+                4,
+                1,
+                shift,
+                line,
+                start,
+                count,
+                src,
+                dst,
+            ),
             8 => fadst8_1d(shift, line, start, count, src, dst),
-            _ => fadst16_1d(shift, line, start, count, src, dst),
+            _ => lines::dense_lines(
+                16,
+                &kernels::adst16(),
+                16,
+                1,
+                shift,
+                line,
+                start,
+                count,
+                src,
+                dst,
+            ),
         }
     }
 }

@@ -5,8 +5,8 @@ ghost use lib.Dec.{ltb};
 ghost use lib.ListN.{length};
 ghost use Rattle.laws.specs.Integer.{wrap32};
 ghost use Rattle.laws.specs.Store.{stores};
-ghost use Rattle.lines.specs.Pass.{passAt};
-ghost use Rattle.lines.specs.Room.{LineRoom, Reading, onLine};
+ghost use Rattle.lines.specs.Pass.{passAt, passLines};
+ghost use Rattle.lines.specs.Room.{Room, LineRoom, Reading, onLine};
 ghost use Rattle.lines.specs.Line.{rowSum, place, rounded, InReach, Butterfly, Halving, Halved, Gathered, from, number};
 
 // The sum of n products: the numbers of a table from row on, apart places apart, with those of a line that
@@ -138,6 +138,30 @@ pub fn dense_line(
     let mut o = [0i32; 16];
     frequencies(n, 0, 1, n, t, fs, ks, src, j, line, &mut o, shift);
     put(n, &o, dst, to * n);
+}
+
+// Count lines from start on, out of line lines, by dense sums.
+pub fn dense_lines(
+    n: usize,
+    t: &[i8],
+    fs: usize,
+    ks: usize,
+    shift: u32,
+    line: usize,
+    start: usize,
+    count: usize,
+    src: &[i32],
+    dst: &mut [i32],
+)
+    requires { ⌜ Room n line start count shift (length (now src)) (length (now dst)) × (1 ≤ n) × Reading n fs ks (now t) ⌝ }
+    ensures { λ _. ⌜ now (dst .exit) ≡ passLines 1 n shift line (now (src .entry)) start count (now (dst .entry)) ⌝ }
+{
+    let mut i: usize = 0;
+    while i < count {
+        let j = start + i;
+        dense_line(n, t, fs, ks, line, j, src, dst, j, shift);
+        i += 1;
+    }
 }
 
 // The n numbers of a line that begins at at and has a number every stride places, into x.

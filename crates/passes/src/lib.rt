@@ -3,7 +3,6 @@ use answer::Outcome;
 use answer::Refusal;
 ghost use mathlib.Core.Path.{_≡_};
 ghost use mathlib.Core.Bool.{true};
-ghost use Prim.Native.Nat.{_≤_};
 ghost use lib.ListN.{length};
 ghost use Rattle.laws.specs.Store.{stores};
 ghost use Rattle.answer.specs.Answer.{told};
@@ -11,7 +10,7 @@ ghost use Rattle.sizes.specs.Size.{isSide};
 ghost use Rattle.kernels.specs.Dct.{dct32};
 ghost use Rattle.kernels.specs.Kernel.{hasKernel};
 ghost use Rattle.lines.specs.Pass.{passAt, passLines};
-ghost use Rattle.lines.specs.Room.{Room, LineRoom, Reading, onLine};
+ghost use Rattle.lines.specs.Room.{Room, LineRoom, onLine};
 ghost use Rattle.passes.specs.Answer.{isShift, passAnswer, passAfter};
 
 // Line j of a DCT of side n: it is folded to half its length until one number remains, and the odd frequencies are summed at each stage.
@@ -58,27 +57,6 @@ fn dct_lines(n: usize, shift: u32, line: usize, src: &[i32], dst: &mut [i32])
     }
 }
 
-// Every line of an ADST, whose table has frequency f, sample k at place f × fs + k × ks.
-fn adst_lines(
-    n: usize,
-    t: &[i8],
-    fs: usize,
-    ks: usize,
-    shift: u32,
-    line: usize,
-    src: &[i32],
-    dst: &mut [i32],
-)
-    requires { ⌜ Room n line 0 line shift (length (now src)) (length (now dst)) × (1 ≤ n) × Reading n fs ks (now t) ⌝ }
-    ensures { λ _. ⌜ now (dst .exit) ≡ passLines 1 n shift line (now (src .entry)) 0 line (now (dst .entry)) ⌝ }
-{
-    let mut j: usize = 0;
-    while j < line {
-        lines::dense_line(n, t, fs, ks, line, j, src, dst, j, shift);
-        j += 1;
-    }
-}
-
 // Every line of a pass.
 fn run(side: usize, kind: u32, shift: u32, line: usize, src: &[i32], dst: &mut [i32])
     requires { ⌜ (isSide side ≡ true) × (hasKernel kind side ≡ true) × Room side line 0 line shift (length (now src)) (length (now dst)) ⌝ }
@@ -89,9 +67,20 @@ fn run(side: usize, kind: u32, shift: u32, line: usize, src: &[i32], dst: &mut [
         return;
     }
     match side {
-        4 => adst_lines(4, &kernels::adst4(), 4, 1, shift, line, src, dst),
-        8 => adst_lines(8, &kernels::adst8(), 1, 8, shift, line, src, dst),
-        _ => adst_lines(16, &kernels::adst16(), 16, 1, shift, line, src, dst),
+        4 => lines::dense_lines(4, &kernels::adst4(), 4, 1, shift, line, 0, line, src, dst),
+        8 => lines::dense_lines(8, &kernels::adst8(), 1, 8, shift, line, 0, line, src, dst),
+        _ => lines::dense_lines(
+            16,
+            &kernels::adst16(),
+            16,
+            1,
+            shift,
+            line,
+            0,
+            line,
+            src,
+            dst,
+        ),
     }
 }
 

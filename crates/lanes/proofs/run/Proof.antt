@@ -1,6 +1,8 @@
 -- `lanes::run` meets its contract: each arm by the tests that led there. Assumes nothing.
 use mathlib.Core.Path.{_≡_}
 use borrow.Author.Needs.{needs}
+use lib.Dec.{lit≤}
+use Rattle.lines.proofs.Reading.{reading4, reading16}
 use Rattle.lines.proofs.Arm.{side-32, Adst, is-adst, side-16, asked, given}
 use Rattle.lanes.proofs.run.Statement.{statement}
 use Rattle.lanes.proofs.run.Tie as tie
@@ -27,14 +29,26 @@ fdct16-1d-requires c κs = asked (c .before .match .keys3) (c .before .before .b
 fdct32-1d-requires : tie.Need-fdct32-1d-requires
 fdct32-1d-requires c κs = asked (last-dct (c .before)) (c .before .before .before .pre .2)
 
-fadst4-1d-requires : tie.Need-fadst4-1d-requires
-fadst4-1d-requires c κs = asked (c .before .match2 .keys1) (c .before .before .before .pre .2)
+adst4-requires : tie.Need-adst4-requires
+adst4-requires c κs = search needs
+
+slice-aggregate-dense-lines : tie.Need-slice-aggregate-dense-lines
+slice-aggregate-dense-lines c = search needs
+
+dense-lines-requires : tie.Need-dense-lines-requires
+dense-lines-requires c κs = (asked (c .before .before .before .match2 .keys1) (c .before .before .before .before .before .pre .2), lit≤ tt, reading4 (c .before .before .adst4 .ensures))
 
 fadst8-1d-requires : tie.Need-fadst8-1d-requires
 fadst8-1d-requires c κs = asked (c .before .match2 .keys2) (c .before .before .before .pre .2)
 
-fadst16-1d-requires : tie.Need-fadst16-1d-requires
-fadst16-1d-requires c κs = asked (last-adst (c .before)) (c .before .before .before .pre .2)
+adst16-requires : tie.Need-adst16-requires
+adst16-requires c κs = search needs
+
+slice-aggregate-dense-lines-2 : tie.Need-slice-aggregate-dense-lines-2
+slice-aggregate-dense-lines-2 c = search needs
+
+dense-lines-requires-2 : tie.Need-dense-lines-requires-2
+dense-lines-requires-2 c κs = (asked (last-adst (c .before .before .before)) (c .before .before .before .before .before .pre .2), lit≤ tt, reading16 (c .before .before .adst16 .ensures))
 
 same-length : tie.Need-same-length
 same-length c = search needs
@@ -73,8 +87,8 @@ same-length-5 c = search needs
 
 returns-5 : tie.Need-returns-5
 returns-5 c =
-    let a = c .before .before .before .before .before .args in
-    given (a .shift) (a .line) (a .start) (a .count) (a .src .now) (a .dst .now) (c .before .before .before .match2 .keys1) (adst (c .before .before .before .before) .one) (c .before .fadst4-1d .ensures)
+    let a = c .before .before .before .before .before .before .before .args in
+    given (a .shift) (a .line) (a .start) (a .count) (a .src .now) (a .dst .now) (c .before .before .before .before .before .match2 .keys1) (adst (c .before .before .before .before .before .before) .one) (c .before .dense-lines .ensures)
 
 same-length-6 : tie.Need-same-length-6
 same-length-6 c = search needs
@@ -89,8 +103,8 @@ same-length-7 c = search needs
 
 returns-7 : tie.Need-returns-7
 returns-7 c =
-    let a = c .before .before .before .before .before .args in
-    given (a .shift) (a .line) (a .start) (a .count) (a .src .now) (a .dst .now) (last-adst (c .before .before .before)) (adst (c .before .before .before .before) .one) (c .before .fadst16-1d .ensures)
+    let a = c .before .before .before .before .before .before .before .args in
+    given (a .shift) (a .line) (a .start) (a .count) (a .src .now) (a .dst .now) (last-adst (c .before .before .before .before .before)) (adst (c .before .before .before .before .before .before) .one) (c .before .dense-lines2 .ensures)
 
 pub run-spec : {M : Type 1} → statement M
 run-spec =
@@ -100,9 +114,13 @@ run-spec =
     fdct8-1d-requires
     fdct16-1d-requires
     fdct32-1d-requires
-    fadst4-1d-requires
+    adst4-requires
+    slice-aggregate-dense-lines
+    dense-lines-requires
     fadst8-1d-requires
-    fadst16-1d-requires
+    adst16-requires
+    slice-aggregate-dense-lines-2
+    dense-lines-requires-2
     same-length
     returns
     same-length-2
