@@ -67,11 +67,7 @@ impl Case {
         let mut dst = Lent::new(&self.dst);
         let answer = ours::lanes((side, kind, shift), (line, start, lines), src.read(), dst.write());
         src.holds("src", &self.src)?;
-        // Four or eight lines off a multiple of 4 are no batch: they may be refused.
-        if answer.is_err() && lines > 1 && start % 4 != 0 {
-            return dst.holds("dst", &self.dst);
-        }
-        same("whether it is done", true, answer.is_ok())?;
+        same("the answer", Ok(lines), answer)?;
         let all = oracle::pass(side, kind, shift, line, &self.src);
         let (first, end) = (start * side, (start + lines) * side);
         let mut expected = self.dst.clone();

@@ -60,6 +60,13 @@ some-lines i m r b =
     let e = r .ends in
     record { small = r .small; ends = omega arith; src = r .src; dst = r .dst; low = r .low; high = r .high }
 
+-- one of them, the i-th, stored as line to of a buffer of length lo
+line-within : {n line start count shift ls ld i to lo : ℕ} → 0 < n → n ≤ 32 → Room n line start count shift ls ld → i < count → to ≤ 32
+    → to * n + n ≤ lo → LineRoom n line (start + i) shift ls to lo
+line-within some side r b few room =
+    let e = r .ends in
+    record { some = some; side = side; inside = omega arith; src = r .src; few = few; dst = room; low = r .low; high = r .high }
+
 module _ {kind n shift line : ℕ} {src : List ℤ} {start : ℕ} where
   -- the next line lies within the buffers
   pub next-line : {i count ls : ℕ} {dst dst₀ : List ℤ} → 0 < n → n ≤ 32 → Room n line start count shift ls (length dst₀) → i < count
@@ -67,16 +74,7 @@ module _ {kind n shift line : ℕ} {src : List ℤ} {start : ℕ} where
   next-line {i} {count} some side r b w =
       let s = r .small in let e = r .ends in let l = same-long w in
       let m : (i + 1) * n ≤ count * n = mul-le-mul-right n (omega arith) in
-      record {
-        some = some;
-        side = side;
-        inside = omega arith;
-        src = r .src;
-        few = omega arith;
-        dst = omega (arith, lines-end r, add-mul start i n, add-mul i 1 n, one-mul n);
-        low = r .low;
-        high = r .high;
-      }
+      line-within some side r b (omega arith) (omega (arith, lines-end r, add-mul start i n, add-mul i 1 n, one-mul n))
 
   pub all-lines : {i count ls : ℕ} {dst dst₀ : List ℤ} → 0 < n → Room n line start count shift ls (length dst₀) → i ≡ count
       → Written kind n shift line src start start i dst dst₀ → dst ≡ passLines kind n shift line src start count dst₀
@@ -112,16 +110,7 @@ pub next-staged : {n line j m shift ls ld q lo : ℕ} → 0 < n → n ≤ 32 →
 next-staged {n} {line} {j} {m} {shift} {ls} {ld} {q} some side r room b =
     let s = r .small in let e = r .ends in
     let u : (q + 1) * n ≤ m * n = mul-le-mul-right n (omega arith) in
-    record {
-      some = some;
-      side = side;
-      inside = omega arith;
-      src = r .src;
-      few = omega arith;
-      dst = omega (arith, add-mul q 1 n, one-mul n);
-      low = r .low;
-      high = r .high;
-    }
+    line-within some side r b (omega arith) (omega (arith, add-mul q 1 n, one-mul n))
 
 pub one-staged : (kind n shift line : ℕ) (src : List ℤ) (j q : ℕ) {o zeros o' : List ℤ} → Written kind n shift line src j 0 q o zeros
     → o' ≡ stores o n (onLine n q) (passAt kind n shift line src (j + q)) → Written kind n shift line src j 0 (q + 1) o' zeros
