@@ -31,14 +31,16 @@ enum mizdrek_refusal {
     MIZDREK_BAD_SIZE = 1,
     /* A kind isn't 0 or 1, or the ADST is asked in a block that isn't square, or at side 32. */
     MIZDREK_BAD_KIND = 2,
-    /* A buffer is shorter than the part that the call reads or writes. */
+    /* A buffer is shorter than the part that the call reads or writes. A preview buffer is only tested for 1, 4 or 8
+     * lines. */
     MIZDREK_SHORT_BUFFER = 3,
     /* One of a block's first w * h residuals lies outside -4095 to 4095. */
     MIZDREK_RESIDUAL_RANGE = 4,
-    /* A batch isn't 1, 4 or 8 lines, a start of 4 or 8 lines isn't a multiple of 4, or it ends past the line count. */
+    /* A batch isn't 1, 4 or 8 lines, a start of 4 or 8 lines isn't a multiple of 4, or it ends past the line count. A
+     * preview is refused as its batch is. */
     MIZDREK_BATCH_RANGE = 5,
-    /* A ticket has a mark past its line count, or row marks with a column unmarked; or a row batch is asked with a
-     * column unmarked. */
+    /* A ticket has a mark past its line count, or row marks with a column unmarked; or a row batch, or a preview of one,
+     * is asked with a column unmarked. */
     MIZDREK_BATCH_ORDER = 6,
     /* A quantizer setting is outside its range. */
     MIZDREK_BAD_SETTING = 7,
@@ -75,7 +77,7 @@ int64_t mizdrek_block(size_t w, size_t h, uint32_t column_kind, uint32_t row_kin
 
 /*
  * A block that is worked on in batches of lines, in any order: its sides, its kinds, and a bit for each line that is done,
- * the lowest for line 0. mizdrek_open fills it in; the batches mark it.
+ * the lowest for line 0. mizdrek_open fills it in; the batches mark it; the previews only read it.
  */
 struct mizdrek_ticket {
     size_t w;
@@ -110,6 +112,30 @@ int64_t mizdrek_row_batch(struct mizdrek_ticket *ticket,
                           const int32_t *scratch, size_t scratch_len,
                           int32_t *output, size_t output_len,
                           size_t start, size_t lines);
+
+/*
+ * Shows the columns that mizdrek_column_batch would write to scratch with the same arguments, and answers `lines`. Writes
+ * lines * h numbers of preview: column start + i is the h numbers from place i * h on. The ticket, the residuals and
+ * scratch are only read. Refuses what the batch refuses, and gives MIZDREK_SHORT_BUFFER also where preview holds fewer
+ * than lines * h numbers; that is only tested for 1, 4 or 8 lines, as any other count is refused in any case.
+ */
+int64_t mizdrek_preview_columns(const struct mizdrek_ticket *ticket,
+                                const int32_t *residuals, size_t residuals_len,
+                                const int32_t *scratch, size_t scratch_len,
+                                int32_t *preview, size_t preview_len,
+                                size_t start, size_t lines);
+
+/*
+ * Shows the rows that mizdrek_row_batch would write to output with the same arguments, and answers `lines`. Writes
+ * lines * w numbers of preview: row start + i is the w numbers from place i * w on. The ticket, scratch and output are
+ * only read. Refuses what the batch refuses, and gives MIZDREK_SHORT_BUFFER also where preview holds fewer than lines * w
+ * numbers; that is only tested for 1, 4 or 8 lines, as for columns.
+ */
+int64_t mizdrek_preview_rows(const struct mizdrek_ticket *ticket,
+                             const int32_t *scratch, size_t scratch_len,
+                             const int32_t *output, size_t output_len,
+                             int32_t *preview, size_t preview_len,
+                             size_t start, size_t lines);
 
 /* The 4x4 Walsh-Hadamard transform of 16 residuals from -4095 to 4095. Writes 16 numbers of output and answers 16. */
 int64_t mizdrek_fwht4x4(const int32_t *residuals, size_t residuals_len,

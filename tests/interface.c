@@ -29,6 +29,13 @@ static void expect_all(const char *what, const int32_t *got, size_t count, int32
     }
 }
 
+static void expect_same(const char *what, const int32_t *got, const int32_t *wanted, size_t count)
+{
+    for (size_t i = 0; i < count; i++) {
+        expect(what, got[i], wanted[i]);
+    }
+}
+
 static void tables(void)
 {
     expect("dc_tx_scale of 4x4", mizdrek_dc_tx_scale(4, 4), 0);
@@ -110,6 +117,99 @@ static void ticket(void)
     expect("a refused opening's ticket", memcmp(&before, &ticket, sizeof ticket), 0);
 }
 
+/* A block 8 wide and 4 high, its ticket, and a preview buffer one number longer than its rows. */
+struct work {
+    int32_t residuals[32], scratch[32], output[32], preview[33];
+    struct mizdrek_ticket ticket, before;
+};
+
+static int64_t preview_columns(struct work *work, size_t preview_len, size_t start, size_t lines)
+{
+    fill(work->preview, 33, 7);
+    work->before = work->ticket;
+    return mizdrek_preview_columns(&work->ticket, work->residuals, 32, work->scratch, 32,
+                                   work->preview, preview_len, start, lines);
+}
+
+static int64_t preview_rows(struct work *work, size_t preview_len, size_t start, size_t lines)
+{
+    fill(work->preview, 33, 7);
+    work->before = work->ticket;
+    return mizdrek_preview_rows(&work->ticket, work->scratch, 32, work->output, 32,
+                                work->preview, preview_len, start, lines);
+}
+
+/* The ticket is as before, and of preview no more than the first `written` numbers have changed. */
+static void expect_kept(const char *what, const struct work *work, size_t written)
+{
+    expect(what, memcmp(&work->before, &work->ticket, sizeof work->ticket), 0);
+    expect_all(what, work->preview + written, 33 - written, 7);
+}
+
+static void refused_previews(struct work *work)
+{
+    expect("rows first, in a preview", preview_rows(work, 33, 0, 4), -MIZDREK_BATCH_ORDER);
+    expect_kept("a preview of rows first", work, 0);
+    expect("a preview buffer short for columns", preview_columns(work, 15, 0, 4), -MIZDREK_SHORT_BUFFER);
+    expect_kept("a preview short for columns", work, 0);
+    expect("a preview buffer short for rows", preview_rows(work, 31, 0, 4), -MIZDREK_SHORT_BUFFER);
+    expect_kept("a preview short for rows", work, 0);
+    expect("two columns in an empty preview", preview_columns(work, 0, 0, 2), -MIZDREK_BATCH_RANGE);
+    expect_kept("a preview of two columns", work, 0);
+    expect("two rows in an empty preview", preview_rows(work, 0, 0, 2), -MIZDREK_BATCH_RANGE);
+    expect_kept("a preview of two rows", work, 0);
+    work->ticket.w = SIZE_MAX;
+    expect("rows of a made-up ticket", preview_rows(work, 0, 0, 8), -MIZDREK_BAD_SIZE);
+    expect_kept("a preview of a made-up ticket", work, 0);
+    work->ticket.w = 8;
+    expect_all("scratch of refused previews", work->scratch, 32, 7);
+    expect_all("output of refused previews", work->output, 32, 7);
+}
+
+static void column_previews(struct work *work)
+{
+    int32_t *residuals = work->residuals, *scratch = work->scratch;
+    expect("a preview of columns 4 to 7", preview_columns(work, 33, 4, 4), 4);
+    expect_kept("past the columns' preview", work, 16);
+    expect_all("scratch after a preview", scratch, 32, 7);
+    expect("columns 4 to 7, previewed", mizdrek_column_batch(&work->ticket, residuals, 32, scratch, 32, 4, 4), 4);
+    expect_same("the columns' preview", work->preview, scratch + 16, 16);
+    expect("columns 0 to 3", mizdrek_column_batch(&work->ticket, residuals, 32, scratch, 32, 0, 4), 4);
+    expect("a preview of all columns", preview_columns(work, 32, 0, 8), 8);
+    expect_same("all columns' preview", work->preview, scratch, 32);
+}
+
+static void row_previews(struct work *work)
+{
+    int32_t scratch[32];
+    memcpy(scratch, work->scratch, sizeof scratch);
+    expect("a preview of row 2", preview_rows(work, 33, 2, 1), 1);
+    expect_kept("past the row's preview", work, 8);
+    expect_all("output after a preview", work->output, 32, 7);
+    expect_same("scratch after a preview of rows", work->scratch, scratch, 32);
+    expect("row 2, previewed", mizdrek_row_batch(&work->ticket, work->scratch, 32, work->output, 32, 2, 1), 1);
+    expect_same("the row's preview", work->preview, work->output + 16, 8);
+    expect("a preview of all rows", preview_rows(work, 32, 0, 4), 4);
+    expect_kept("past all rows' preview", work, 32);
+    expect("all rows, previewed", mizdrek_row_batch(&work->ticket, work->scratch, 32, work->output, 32, 0, 4), 4);
+    expect_same("all rows' preview", work->preview, work->output, 32);
+}
+
+static void preview(void)
+{
+    struct work work;
+    for (int32_t i = 0; i < 32; i++) {
+        work.residuals[i] = i * 37 % 101 - 50;
+    }
+    fill(work.scratch, 32, 7);
+    fill(work.output, 32, 7);
+    expect("open for previews",
+           mizdrek_open(8, 4, 0, 0, work.residuals, 32, work.scratch, 32, work.output, 32, &work.ticket), 0);
+    refused_previews(&work);
+    column_previews(&work);
+    row_previews(&work);
+}
+
 static void wht(void)
 {
     int32_t residuals[16], output[16];
@@ -155,6 +255,7 @@ int main(void)
     pass();
     block();
     ticket();
+    preview();
     wht();
     levels();
     if (!wrong) {

@@ -8,18 +8,19 @@ const ROUNDS: usize = 31;
 /// About how long each timing takes.
 const ROUND: Duration = Duration::from_millis(1);
 
-/// Times both and prints the row: the median time of each side, and the median of the rounds' ratios.
-pub fn row(label: &str, mut rust: impl FnMut(), mut ours: impl FnMut()) {
-    let (rust_turns, our_turns) = (turns(&mut rust), turns(&mut ours));
-    let rounds = (0..ROUNDS).map(|_| (time(rust_turns, &mut rust), time(our_turns, &mut ours)));
+/// Times both and prints the row: the median time of each side, and the median of the rounds' ratios
+/// ours/base. The base is the Rust, or what else ours is held against.
+pub fn row(label: &str, mut base: impl FnMut(), mut ours: impl FnMut()) {
+    let (base_turns, our_turns) = (turns(&mut base), turns(&mut ours));
+    let rounds = (0..ROUNDS).map(|_| (time(base_turns, &mut base), time(our_turns, &mut ours)));
     print(label, rounds.collect());
 }
 
 fn print(label: &str, rounds: Vec<(f64, f64)>) {
-    let rust = median(rounds.iter().map(|round| round.0));
+    let base = median(rounds.iter().map(|round| round.0));
     let ours = median(rounds.iter().map(|round| round.1));
-    let ratio = median(rounds.iter().map(|(rust, ours)| ours / rust));
-    println!("{label:34} {rust:>10.1} {ours:>10.1} {ratio:>6.2}");
+    let ratio = median(rounds.iter().map(|(base, ours)| ours / base));
+    println!("{label:34} {base:>10.1} {ours:>10.1} {ratio:>6.2}");
 }
 
 /// The same with the time of a part of ours left out, which is timed by itself.

@@ -2,6 +2,7 @@
 
 mod block_case;
 mod blocks;
+mod call;
 mod claim;
 mod lanes;
 mod made_up;

@@ -1,11 +1,12 @@
-//! Blocks in batches: openings, lists of batches from an opening, and batches on made-up tickets.
+//! Blocks in batches: openings, lists of batches and previews from an opening, and both on made-up tickets.
 
 use super::block_case::BlockCase;
+use super::call::{Call, any_batch};
 use super::claim::Claim;
 use super::{Run, made_up, openings};
 use crate::difference::{Outcome, same};
 use crate::lent::Lent;
-use crate::mizdrek::{self, Refusal, Ticket};
+use crate::mizdrek::{self, Ticket};
 use crate::oracle;
 use crate::random::Random;
 use crate::rules::batch::Batch;
@@ -29,15 +30,16 @@ fn list(run: &mut Run) -> Outcome {
     let residuals = residuals(random, size.0 * size.1 + more, RESIDUAL_LIMIT);
     let opening = BlockCase::roomy(random, size, kinds, residuals);
     let batches = any_list(random, size);
-    play(run, &opening, &batches).map_err(|d| {
+    let calls = with_previews(random, size, &batches);
+    play(run, &opening, &calls).map_err(|d| {
         let mut inputs = opening.inputs().to_vec();
-        inputs.push(("batches", &batches));
-        d.of("a list of batches", &inputs)
+        inputs.push(("calls", &calls));
+        d.of("a list of batches and previews", &inputs)
     })
 }
 
-fn play(run: &mut Run, opening: &BlockCase, batches: &[Batch]) -> Outcome {
-    let claim = Claim::new(opening, batches);
+fn play(run: &mut Run, opening: &BlockCase, calls: &[Call]) -> Outcome {
+    let claim = Claim::new(opening, calls);
     let given = Lent::new(&opening.residuals);
     let mut scratch = Lent::new(&opening.scratch);
     let mut output = Lent::new(&opening.output);
@@ -45,36 +47,22 @@ fn play(run: &mut Run, opening: &BlockCase, batches: &[Batch]) -> Outcome {
     let answer =
         mizdrek::open(opening.size, opening.kinds, given.read(), scratch.read(), output.read(), &mut ticket);
     same("the opening's answer", Ok(0), answer)?;
-    for (i, batch) in batches.iter().enumerate() {
+    for (i, call) in calls.iter().enumerate() {
         run.case();
-        let answer = call(batch, &mut ticket, &given, &mut scratch, &mut output);
-        same(&format!("the answer of batch {i}"), claim.outcome(i), answer)?;
+        let mut preview = Lent::new(&call.preview_before());
+        let answer = call.make(&mut ticket, &given, &mut scratch, &mut output, &mut preview);
+        same(&format!("the answer of call {i}"), claim.outcome(i), answer)?;
         let marks = Ticket {
             columns: claim.covered(false, i + 1),
             rows: claim.covered(true, i + 1),
             ..openings::opened(opening)
         };
-        same(&format!("the ticket after batch {i}"), marks, ticket)?;
-        scratch.holds(&format!("scratch after batch {i}"), &claim.scratch(i + 1))?;
-        output.holds(&format!("output after batch {i}"), &claim.output(i + 1))?;
+        same(&format!("the ticket after call {i}"), marks, ticket)?;
+        scratch.holds(&format!("scratch after call {i}"), &claim.scratch(i + 1))?;
+        output.holds(&format!("output after call {i}"), &claim.output(i + 1))?;
+        preview.holds(&format!("preview after call {i}"), &claim.preview(i))?;
     }
     given.holds("residuals", &opening.residuals)
-}
-
-/// Makes the call that a batch is.
-pub fn call(
-    batch: &Batch,
-    ticket: &mut Ticket,
-    residuals: &Lent<i32>,
-    scratch: &mut Lent<i32>,
-    output: &mut Lent<i32>,
-) -> Result<usize, Refusal> {
-    let Batch { row, start, lines } = *batch;
-    if row {
-        mizdrek::row_batch(ticket, scratch.read(), output.write(), start, lines)
-    } else {
-        mizdrek::column_batch(ticket, residuals.read(), scratch.write(), start, lines)
-    }
 }
 
 /// A list that covers most lines, with repeats, bad batches and rows out of turn among them.
@@ -97,6 +85,19 @@ fn any_list(random: &mut Random, (w, h): (usize, usize)) -> Vec<Batch> {
     list
 }
 
+/// The list with previews at any places, most of them of its own batches; at times with none.
+fn with_previews(random: &mut Random, size: (usize, usize), batches: &[Batch]) -> Vec<Call> {
+    let mut calls: Vec<Call> = batches.iter().map(|&batch| Call::run(batch)).collect();
+    let previews = if random.once_in(4) { 0 } else { random.below(batches.len() + 6) };
+    for _ in 0..previews {
+        let of_list = !batches.is_empty() && !random.once_in(3);
+        let batch = if of_list { random.pick(batches) } else { any_batch(random) };
+        let preview = Call::preview(random, batch, size);
+        calls.insert(random.below(calls.len() + 1), preview);
+    }
+    calls
+}
+
 /// Batches that cover `count` lines once, in any order.
 fn cover(random: &mut Random, row: bool, count: usize) -> Vec<Batch> {
     let mut list: Vec<Batch> = Vec::new();
@@ -109,19 +110,4 @@ fn cover(random: &mut Random, row: bool, count: usize) -> Vec<Batch> {
         }
     }
     list
-}
-
-/// A batch that may be good or bad in any way.
-pub fn any_batch(random: &mut Random) -> Batch {
-    let lines = match random.below(8) {
-        0 => random.below(40),
-        1 => random.pick(&[0, usize::MAX, usize::MAX - 3, 1 << 63]),
-        _ => random.pick(&[1, 4, 8]),
-    };
-    let start = match random.below(8) {
-        0 => random.below(40),
-        1 => random.pick(&[usize::MAX, usize::MAX - 3, usize::MAX - 7, 1 << 63, 32]),
-        _ => random.below(8) * 4,
-    };
-    Batch { row: random.once_in(2), start, lines }
 }

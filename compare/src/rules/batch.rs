@@ -13,6 +13,11 @@ pub struct Batch {
 }
 
 impl Batch {
+    /// How many numbers each of its lines has in a block of this size.
+    pub fn side(&self, (w, h): (usize, usize)) -> usize {
+        if self.row { w } else { h }
+    }
+
     /// Whether the batch lies within `count` lines.
     pub fn within(&self, count: usize) -> bool {
         let placed = match self.lines {

@@ -3,6 +3,7 @@
 
 pub mod batch;
 pub mod levels;
+pub mod preview;
 pub mod transform;
 
 use crate::oracle::{ADST, DCT, SIDES};

@@ -1,8 +1,8 @@
 -- All the lines of an accepted block: what its two buffers hold afterwards. Assumes nothing.
-use mathlib.Core.Path.{_≡_, sym, ap₂, _∙_}
+use mathlib.Core.Path.{_≡_, refl, sym, ap₂, _∙_}
 use mathlib.Core.List.{List}
 use Prim.Native.Nat.{ℕ, _+_, _*_, _/_, _%_, _≤_, _<_}
-use native.Mathlib.Nat.{zero-mul, zero-add}
+use native.Mathlib.Nat.{zero-mul, zero-add, mul-comm}
 use native.Mathlib.Omega.{arith}
 use lib.Arith.{digits-lt, digits-div, digits-mod}
 use lib.IntN.{ℤ, pos, natAbs}
@@ -14,6 +14,7 @@ use Rattle.kernels.specs.Kernel.{hasKernel}
 use Rattle.block.specs.Block.{columnAt, rowAt}
 use Rattle.block.specs.Lines.{LinesRoom, columnLines, rowLines}
 use Rattle.block.proofs.Accepted.{Accepted}
+use Rattle.block.proofs.LineRoom.{lines-asked}
 use Rattle.block.proofs.Exact.{column-lines-exact, row-lines-exact}
 
 -- lines from 0 on
@@ -24,13 +25,11 @@ module _ {w h ck rk : ℕ} {residuals : List ℤ} {ls lo : ℕ} (a : Accepted w 
   small : (p : ℕ) → p < w * h → natAbs (getD residuals p (pos 0)) ≤ 4095
   small = residual-size (w * h) residuals (a .small)
 
-  pub columns-asked : LinesRoom w h (hasKernel ck h) (0 + w) w (length residuals) ls
-  columns-asked =
-      record { wide = a .wide; high = a .high; kernel = a .column-kernel; ends = omega arith; source-long = a .residuals-long; target-long = a .scratch-long }
+  pub columns-asked : LinesRoom w h (hasKernel ck h) (0 + w) w h (length residuals) ls
+  columns-asked = lines-asked (a .wide) (a .high) (a .column-kernel) (omega arith) refl (a .residuals-long) (a .scratch-long)
 
-  pub rows-asked : LinesRoom w h (hasKernel rk w) (0 + h) h ls lo
-  rows-asked =
-      record { wide = a .wide; high = a .high; kernel = a .row-kernel; ends = omega arith; source-long = a .scratch-long; target-long = a .output-long }
+  pub rows-asked : LinesRoom w h (hasKernel rk w) (0 + h) h w ls lo
+  rows-asked = lines-asked (a .wide) (a .high) (a .row-kernel) (omega arith) (mul-comm h w) (a .scratch-long) (a .output-long)
 
   pub all-columns : (scratch : List ℤ) {s : List ℤ} → s ≡ columnLines w h ck residuals 0 w scratch
       → s ≡ laid scratch 0 (w * h) (λ p. columnAt w h ck residuals (p / h) (p % h))

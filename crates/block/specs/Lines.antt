@@ -22,14 +22,15 @@ unfoldable pub rowLines : ℕ → ℕ → ℕ → List ℤ → ℕ → ℕ → L
 rowLines w h rk scratch start count output =
     laid output (start * w) (count * w) (λ p. rescaled w h (passAt rk w (secondShift w h) h scratch (start + p / w) (p % w)))
 
--- what the calls that write them ask: the sides, the kernel, the end of the lines and the lengths of the two buffers
-pub record LinesRoom (w h : ℕ) (has : Bool) (end count source target : ℕ) : Type 0 where
+-- what the calls that write them ask: the sides, the kernel, where the lines end, out of count lines of n numbers, and that just these
+-- lines lie within the two buffers
+pub record LinesRoom (w h : ℕ) (has : Bool) (end count n source target : ℕ) : Type 0 where
   pub wide : isSide w ≡ true
   pub high : isSide h ≡ true
   pub kernel : has ≡ true
   pub ends : end ≤ count
-  pub source-long : w * h ≤ source
-  pub target-long : w * h ≤ target
+  pub source-long : w * h + end ≤ count + source
+  pub target-long : end * n ≤ target
 
 -- the number at place at + i, scaled at 64 bits
 abbrev pub scaledAt : List ℤ → ℕ → ℕ → ℤ

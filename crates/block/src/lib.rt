@@ -21,7 +21,7 @@ pub fn column_lines(
     residuals: &[i32],
     scratch: &mut [i32],
 )
-    requires { ⌜ LinesRoom w h (hasKernel kind h) (start + count) w (length (now residuals)) (length (now scratch)) ⌝ }
+    requires { ⌜ LinesRoom w h (hasKernel kind h) (start + count) w h (length (now residuals)) (length (now scratch)) ⌝ }
     ensures { λ _. ⌜ now (scratch .exit) ≡ columnLines w h kind (now (residuals .entry)) start count (now (scratch .entry)) ⌝ }
 {
     let shifts = sizes::fwd_shifts(w, h);
@@ -58,7 +58,7 @@ pub fn row_lines(
     scratch: &[i32],
     output: &mut [i32],
 )
-    requires { ⌜ LinesRoom w h (hasKernel kind w) (start + count) h (length (now scratch)) (length (now output)) ⌝ }
+    requires { ⌜ LinesRoom w h (hasKernel kind w) (start + count) h w (length (now scratch)) (length (now output)) ⌝ }
     ensures { λ _. ⌜ now (output .exit) ≡ rowLines w h kind (now (scratch .entry)) start count (now (output .entry)) ⌝ }
 {
     let shifts = sizes::fwd_shifts(w, h);

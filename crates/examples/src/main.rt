@@ -1,5 +1,5 @@
 // Document 01's entries under "Frames on the light table" that aren't marked P, run: a line for each. Those marked P are the list of
-// specs/Examples.antt. And a list of batches, played.
+// specs/Examples.antt. And a list of batches, played, and a preview beside its batch.
 use answer::Outcome;
 use quant::Settings;
 use text::print_text;
@@ -67,10 +67,15 @@ fn column_batch(entry: &[u8], w: usize, start: usize, lines: usize) {
     print_outcome(entry, outcome);
 }
 
+// One number of a row of them.
+fn print_number(n: i32) {
+    print_text(b" ");
+    text::print_signed(n);
+}
+
 // What a batch of a list gave back.
 fn print_answer(n: i64) {
-    print_text(b" ");
-    text::print_signed(text::narrow(n));
+    print_number(text::narrow(n));
 }
 
 // A list of batches of an 8×8 block of ones: rows before the columns, all columns, three rows, and all rows.
@@ -103,6 +108,48 @@ fn list() {
     print_text(b"\n");
 }
 
+// Four numbers of a line.
+fn print_four(entry: &[u8], p: i32, q: i32, r: i32, s: i32) {
+    print_text(entry);
+    print_number(p);
+    print_number(q);
+    print_number(r);
+    print_number(s);
+    print_text(b"\n");
+}
+
+// Columns 4 to 7 of an 8×4 block with one residual of 7, in column 4: the preview, its batch, and a preview buffer that is one number short.
+fn preview() {
+    let mut residuals = [0i32; 32];
+    residuals[4] = 7;
+    let mut scratch = [0i32; 32];
+    let mut shown = [9i32; 16];
+    let opened = tickets::open(8, 4, 0, 0, &residuals, &scratch, &[0i32; 32]);
+    let ticket = opened.ticket;
+    let looked = previews::preview_columns(ticket, &residuals, &scratch, &mut shown, 4, 4);
+    print_outcome(b"8x4, a preview of columns 4 to 7", looked);
+    let batched = tickets::column_batch(ticket, &residuals, &mut scratch, 4, 4);
+    let outcome = batched.outcome;
+    print_outcome(b"8x4, their batch", outcome);
+    print_four(
+        b"8x4, column 4 in the preview:",
+        shown[0],
+        shown[1],
+        shown[2],
+        shown[3],
+    );
+    print_four(
+        b"8x4, column 4 in scratch:",
+        scratch[16],
+        scratch[17],
+        scratch[18],
+        scratch[19],
+    );
+    let mut short = [9i32; 15];
+    let refused = previews::preview_columns(ticket, &residuals, &scratch, &mut short, 4, 4);
+    print_outcome(b"8x4, the preview into 15 numbers", refused);
+}
+
 fn main() {
     blocks();
     // "Step 0: number 7. Step 1: accepted."
@@ -115,4 +162,5 @@ fn main() {
     column_batch(b"32 lines, a batch of 8 from 28", 32, 28, 8);
     column_batch(b"32 lines, a batch of 4 from 28", 32, 28, 4);
     list();
+    preview();
 }

@@ -4,7 +4,6 @@ use mathlib.Core.List.{List}
 use Prim.Native.Nat.{ℕ, _+_, _*_, _≤_, _<_}
 use native.Mathlib.Nat.{mul-le-mul}
 use native.Mathlib.Omega.{arith}
-use lib.Arith.{digits-lt}
 use lib.IntN.{ℤ, pos, _*ℤ_}
 use lib.ListN.{length, getD}
 use Rattle.laws.specs.Store.{stores}
@@ -14,6 +13,7 @@ use Rattle.fixed.specs.Fixed.{roundShift}
 use Rattle.kernels.specs.Kernel.{kernel}
 use Rattle.lines.specs.Line.{lineAt, rowSum, place, rounded, InReach, from, number}
 use Rattle.lines.specs.Pass.{passSum, passAt}
+use Rattle.lines.proofs.Reach.{reaches}
 use Rattle.lines.proofs.Stage.{dctSum, Finished}
 use Rattle.lines.specs.Room.{LineRoom, Reading, onLine}
 
@@ -38,7 +38,7 @@ module _ (n line j shift : ℕ) (src : List ℤ) {fs ks : ℕ} {ts : List ℤ} (
       record {
         some = r .some;
         table = λ f k a b. rw (plain f) (reading .inside f k a b);
-        line = λ k a. let d = digits-lt {q = k} {m = n} {r = j} {c = line} a (r .inside) in let l = r .src in omega arith;
+        line = λ k a. reaches k a (r .src);
         stored = λ f a. let s = reading .small in omega arith;
       }
 

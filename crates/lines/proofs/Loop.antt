@@ -2,7 +2,7 @@
 use mathlib.Core.Path.{_≡_, sym, ap, _∙_, subst}
 use mathlib.Core.List.{List}
 use Prim.Native.Nat.{ℕ, _+_, _*_, _/_, _%_, _≤_, _<_}
-use native.Mathlib.Nat.{mul-le-mul-right, add-mul, one-mul, mul-comm, zero-mul, zero-add, add-assoc}
+use native.Mathlib.Nat.{mul-le-mul-right, add-mul, one-mul, zero-mul, zero-add, add-assoc}
 use native.Mathlib.Omega.{arith}
 use lib.IntN.{ℤ, pos}
 use Rattle.laws.specs.Store.{stores, laid}
@@ -48,24 +48,22 @@ module _ {kind n shift line : ℕ} {src : List ℤ} {start first : ℕ} where
 
 -- count lines from start on end within dst
 pub lines-end : {n line start count shift ls ld : ℕ} → Room n line start count shift ls ld → start * n + count * n ≤ ld
-lines-end {n} {line} {start} {count} r =
-    let m : (start + count) * n ≤ line * n = mul-le-mul-right n (r .ends) in
-    let d = r .dst in
-    omega (arith, add-mul start count n, mul-comm line n)
+lines-end {n} {line} {start} {count} r = let d = r .dst in omega (arith, add-mul start count n)
 
 -- m of them, from the i-th on
 pub some-lines : {n line start count shift ls ld : ℕ} (i m : ℕ) → Room n line start count shift ls ld → i + m ≤ count
     → Room n line (start + i) m shift ls ld
-some-lines i m r b =
-    let e = r .ends in
-    record { small = r .small; ends = omega arith; src = r .src; dst = r .dst; low = r .low; high = r .high }
+some-lines {n} {line} {start} {count} i m r b =
+    let e = r .ends in let s = r .src in let d = r .dst in
+    let u : (start + i + m) * n ≤ (start + count) * n = mul-le-mul-right n (omega arith) in
+    record { small = r .small; ends = omega arith; src = omega arith; dst = omega arith; low = r .low; high = r .high }
 
 -- one of them, the i-th, stored as line to of a buffer of length lo
 line-within : {n line start count shift ls ld i to lo : ℕ} → 0 < n → n ≤ 32 → Room n line start count shift ls ld → i < count → to ≤ 32
     → to * n + n ≤ lo → LineRoom n line (start + i) shift ls to lo
 line-within some side r b few room =
-    let e = r .ends in
-    record { some = some; side = side; inside = omega arith; src = r .src; few = few; dst = room; low = r .low; high = r .high }
+    let s = r .src in
+    record { some = some; side = side; src = record { last = omega arith }; few = few; dst = room; low = r .low; high = r .high }
 
 module _ {kind n shift line : ℕ} {src : List ℤ} {start : ℕ} where
   -- the next line lies within the buffers

@@ -1,14 +1,23 @@
 -- Where the pieces of a line read and store lies within their buffers. Assumes nothing.
 use mathlib.Core.Path.{_≡_}
 use Prim.Native.Nat.{ℕ, _+_, _*_, _≤_, _<_}
-use native.Mathlib.Nat.{zero-mul, mul-one, mul-le-mul-left, mul-le-mul-right}
+use native.Mathlib.Nat.{zero-mul, mul-one, one-mul, add-mul, mul-le-mul-left, mul-le-mul-right}
 use native.Mathlib.Omega.{arith}
 use mathlib.Core.List.{List}
 use lib.Arith.{digits-lt}
 use lib.IntN.{ℤ}
 use lib.ListN.{length}
-use Rattle.lines.specs.Line.{place, InReach, Halving}
+use Rattle.lines.specs.Line.{EndsIn, place, InReach, Halving}
 use Rattle.lines.proofs.Stage.{IsKernel, odd-place}
+
+-- number k of a line that ends within a list stands within it
+pub reaches : {n stride at l : ℕ} (k : ℕ) → k < n → EndsIn n stride at l → k * stride + at < l
+reaches {n} {stride} k b e =
+    let s = e .last in let m : (k + 1) * stride ≤ n * stride = mul-le-mul-right stride (omega arith) in omega (arith, add-mul k 1 stride, one-mul stride)
+
+-- a line of m numbers, one after another from 0 on
+pub whole : (m : ℕ) {l : ℕ} → m ≤ l → EndsIn m 1 0 l
+whole m b = record { last = omega (arith, mul-one m) }
 
 pub zeroth-reach : (n : ℕ) {lt lx lo : ℕ} → 0 < lt → 0 < lx → 0 < lo → InReach 1 0 1 1 n 1 0 1 lt lx lo
 zeroth-reach n a b c =
@@ -44,14 +53,13 @@ odds-reach n h s {fs} {lx} {lo} {ts} e a b t x o =
 
 -- a stage of a side of at most 32
 pub halving : (n h s : ℕ) {shift fs lx at stride ls lo : ℕ} {ts : List ℤ} → n ≡ 2 * h * s → n ≤ 32 → 0 < h → 0 < s → IsKernel n fs ts
-    → 1 ≤ shift → shift ≤ 15 → at < stride → 2 * h * stride ≤ lx → h ≤ ls → n ≤ lo
+    → 1 ≤ shift → shift ≤ 15 → EndsIn (2 * h) stride at lx → h ≤ ls → n ≤ lo
     → Halving fs h s shift (length ts) lx at stride ls lo
-halving n h s e small a b t low high begins inside sums room =
+halving n h s e small a b t low high inside sums room =
     let i : 2 * h * 1 ≤ 2 * h * s = mul-le-mul-left (2 * h) b in
     let j : 2 * 1 * s ≤ 2 * h * s = mul-le-mul-right s (omega arith) in
     record {
       few = omega (arith, mul-one (2 * h));
-      begins = begins;
       inside = inside;
       sums = sums;
       spaced = omega arith;

@@ -13,6 +13,10 @@ use Rattle.fixed.specs.Fixed.{roundShift}
 abbrev pub lineAt : List ℤ → ℕ → ℕ → ℕ → ℤ
 lineAt xs at stride k = getD xs (k * stride + at) (pos 0)
 
+-- n such numbers end within a list of length l: the last stands (n - 1) × stride places after at
+pub record EndsIn (n stride at l : ℕ) : Type 0 where
+  pub last : n * stride + at < stride + l
+
 -- n products of a table's numbers, from row on and apart places apart, with a line's
 unfoldable pub rowSum : ℕ → List ℤ → ℕ → ℕ → List ℤ → ℕ → ℕ → ℤ
 rowSum n ts row apart xs at stride = sumTo n (λ k. getD ts (row + k * apart) (pos 0) *ℤ lineAt xs at stride k)
@@ -65,8 +69,7 @@ pub record InReach (count first apart taps fs ks at stride lt lx lo : ℕ) : Typ
 -- what `halve` asks: its 2h numbers lie within the line, its h sums, and each place as above
 pub record Halving (fs h step shift lt lx at stride ls lo : ℕ) : Type 0 where
   pub few : h ≤ 16
-  pub begins : at < stride
-  pub inside : 2 * h * stride ≤ lx
+  pub inside : EndsIn (2 * h) stride at lx
   pub sums : h ≤ ls
   pub spaced : step ≤ 16
   pub low : 1 ≤ shift

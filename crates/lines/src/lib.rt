@@ -7,7 +7,7 @@ ghost use Rattle.laws.specs.Integer.{wrap32};
 ghost use Rattle.laws.specs.Store.{stores};
 ghost use Rattle.lines.specs.Pass.{passAt, passLines};
 ghost use Rattle.lines.specs.Room.{Room, LineRoom, Reading, onLine};
-ghost use Rattle.lines.specs.Line.{rowSum, place, rounded, InReach, Butterfly, Halving, Halved, Gathered, from, number};
+ghost use Rattle.lines.specs.Line.{EndsIn, rowSum, place, rounded, InReach, Butterfly, Halving, Halved, Gathered, from, number};
 
 // The sum of n products: the numbers of a table from row on, apart places apart, with those of a line that
 // begins at at and has a number every stride places.
@@ -57,7 +57,7 @@ fn frequencies(
 
 // The butterfly: the sums and the differences of 2h numbers of a line, the first with the last, the second with the last but one, ..
 fn fold(h: usize, x: &[i32], at: usize, stride: usize, s: &mut [i32], d: &mut [i32])
-    requires { ⌜ (h ≤ 16) × (at < stride) × (2 * h * stride ≤ length (now x)) × (h ≤ length (now s)) × (h ≤ length (now d)) ⌝ }
+    requires { ⌜ (h ≤ 16) × EndsIn (2 * h) stride at (length (now x)) × (h ≤ length (now s)) × (h ≤ length (now d)) ⌝ }
     ensures { λ _. ⌜ Butterfly h (now (x .entry)) at stride (now (s .exit)) (now (d .exit)) ⌝ }
 {
     let mut k: usize = 0;
@@ -166,7 +166,7 @@ pub fn dense_lines(
 
 // The n numbers of a line that begins at at and has a number every stride places, into x.
 pub fn gather(n: usize, src: &[i32], at: usize, stride: usize, x: &mut [i32])
-    requires { ⌜ (at < stride) × (n * stride ≤ length (now src)) × (n ≤ length (now x)) ⌝ }
+    requires { ⌜ EndsIn n stride at (length (now src)) × (n ≤ length (now x)) ⌝ }
     ensures { λ _. ⌜ Gathered n (now (src .entry)) at stride (now (x .exit)) ⌝ }
 {
     let mut k: usize = 0;

@@ -1,7 +1,7 @@
 -- One walk for both batches: all parameters are passed on to an entry of `dispatch`, and its outcome is given back as one signed number.
 -- Written over the callee's key and the kind of its batch. Assumes nothing.
 use mathlib.Core.Path.{_≡_, refl, ap, _∙_}
-use mathlib.Core.Bool.{Bool}
+use mathlib.Core.Bool.{Bool, false}
 use mathlib.Core.List.{[], _∷_, List}
 use Prim.Native.Nat.{_<_, _^_}
 use lib.Dec.{T as Holds}
@@ -75,7 +75,7 @@ shape key = record {
 
 batch-small : (t : Ticket) (b : Batch) (source target : List ℤ) → Holds (isSmall (batch t b source target .answer))
 unfolding batch
-batch-small t b source target = answer-small t b (length source) (length target)
+batch-small t b source target = answer-small false t b (length source) (length target)
 
 signed-batch : (g : Gives) (r : Outcome) (t : Ticket) (d : List ℤ) (m : ℤ) → lent r t d ≡ g → m ≡ signedOf (told r) → SignedBatch g m t d
 signed-batch g r t d m e s =

@@ -1,2 +1,3 @@
 pub mod Levels
+pub mod Preview
 pub mod Ticket

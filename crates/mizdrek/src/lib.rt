@@ -1,6 +1,7 @@
 // The C interface: numbers, slices (a pointer, then a length) and a lent ticket. An answer is a signed 64-bit number: 0 or more for
 // an answer, minus document 01's number for a refusal. include/mizdrek.h declares these functions.
 mod levels;
+mod preview;
 mod ticket;
 
 ghost use mathlib.Core.Path.{_≡_};

@@ -3,7 +3,7 @@
 use mathlib.Core.Path.{_≡_, sym, ap}
 use mathlib.Core.Bool.{Bool, true, false, cond}
 use mathlib.Core.List.{List}
-use Prim.Native.Nat.{ℕ, _+_, _*_}
+use Prim.Native.Nat.{ℕ, _+_, _*_, _≤_}
 use borrow.Author.Tests.{not-false, ltb-false}
 use lib.Dec.{ltb}
 use lib.IntN.{ℤ}
@@ -17,21 +17,24 @@ use Rattle.answer.proofs.Answer.{passed}
 use Rattle.sizes.specs.Size.{isSide}
 use Rattle.kernels.specs.Kernel.{hasKernel}
 use Rattle.block.specs.Answer.{hasKinds}
-use Rattle.block.specs.Lines.{LinesRoom}
-use Rattle.tickets.specs.Batch.{Batch, batchOf, lineCount, batchAnswer, withBatch, linesOf, gives, batch}
+use Rattle.tickets.specs.Batch.{Batch, batchOf, lineCount, answerUnless, batchAnswer, withBatch, linesOf, gives, batch}
 use Rattle.tickets.specs.Play.{stepGiven}
 use Rattle.tickets.specs.Run.{stateAt, columnStep, rowStep, step}
 use Rattle.tickets.specs.declared.Batched.{Batched}
 use Rattle.tickets.specs.declared.Ticket.{Ticket}
-use Rattle.tickets.proofs.Step.{in-range}
+use Rattle.tickets.proofs.Reached.{in-range}
 
 -- the kernel of the batch's lines
 abbrev pub kernelOf : Ticket → Bool → Bool
 kernelOf t row = cond row (hasKernel (t .«row_kind») (t .w)) (hasKernel (t .«column_kind») (t .h))
 
-abbrev pub Taken : Ticket → Batch → ℕ → ℕ → Type 0
-Taken t b source target =
-    LinesRoom (t .w) (t .h) (kernelOf t (b .row)) (b .start + b .lines) (lineCount (t .w) (t .h) (b .row)) source target
+pub record Taken (t : Ticket) (b : Batch) (source target : ℕ) : Type 0 where
+  pub wide : isSide (t .w) ≡ true
+  pub high : isSide (t .h) ≡ true
+  pub kernel : kernelOf t (b .row) ≡ true
+  pub ends : b .start + b .lines ≤ lineCount (t .w) (t .h) (b .row)
+  pub source-long : t .w * t .h ≤ source
+  pub target-long : t .w * t .h ≤ target
 
 has-kernel : (t : Ticket) (row : Bool) → hasKinds (t .w) (t .h) (t .«column_kind») (t .«row_kind») ≡ true → kernelOf t row ≡ true
 unfolding hasKinds
@@ -44,15 +47,15 @@ has-kernel t row e =
     pick true p q = p
     pick false p q = q
 
-pub taken : (t : Ticket) (b : Batch) (source target n : ℕ) → answers n ≡ batchAnswer t b source target → Taken t b source target
-unfolding batchAnswer
-taken t b source target n e =
+pub taken : (short : Bool) (t : Ticket) (b : Batch) (source target n : ℕ) → answers n ≡ answerUnless short t b source target → Taken t b source target
+unfolding answerUnless
+taken short t b source target n e =
     let s1 = passed _ 1 _ _ n e in
     let s2 = passed _ 2 _ _ n (s1 .1) in
     let s3 = passed _ 3 _ _ n (s2 .1) in
     let s5 = passed _ 5 _ _ n (s3 .1) in
     let sides = both (isSide (t .w)) (isSide (t .h)) (not-false _ (s1 .0)) in
-    let long = neither (ltb source (t .w * t .h)) (ltb target (t .w * t .h)) (s3 .0) in
+    let long = neither (ltb source (t .w * t .h)) (ltb target (t .w * t .h)) (neither short _ (s3 .0) .1) in
     record {
       wide = sides .0;
       high = sides .1;

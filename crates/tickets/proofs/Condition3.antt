@@ -1,58 +1,36 @@
 -- Condition 3: by induction on how many batches of the list have run. Assumes nothing.
-use mathlib.Core.Path.{_≡_, refl, sym, ap, _∙_}
-use mathlib.Core.Logic.{⊎-elim}
-use mathlib.Core.Bool.{Bool, true, false, not, _&&_, false≢true}
+use mathlib.Core.Path.{_≡_, refl, ap, _∙_}
+use mathlib.Core.Bool.{true, false}
 use mathlib.Core.List.{List}
-use Prim.Native.Nat.{ℕ, zero, suc, _<_}
-use native.Mathlib.Omega.{arith}
-use borrow.Author.Tests.{not-false}
+use Prim.Native.Nat.{ℕ, zero, suc}
 use lib.IntN.{ℤ}
 use lib.ListN.{length}
-use Rattle.laws.specs.Table.{every}
-use Rattle.laws.proofs.Bool.{both, either}
-use Rattle.laws.proofs.Every.{every-all, every-each}
 use Rattle.laws.proofs.Laid.{tab-ext}
-use Rattle.tickets.specs.Batch.{Batch, lineCount}
+use Rattle.tickets.specs.Batch.{Batch}
 use Rattle.tickets.specs.Open.{newTicket}
 use Rattle.tickets.specs.Run.{State, stateAt, Step, nth, step, stateAfter, run}
-use Rattle.tickets.specs.Condition3.{Condition3, covers, answerTo, accepted, covered, ticketOf, numberAt, stateOf, settled}
-use Rattle.tickets.proofs.Mark.{within-lt, none-zero}
+use Rattle.tickets.specs.Condition3.{Condition3, answerTo, covered, ticketOf, numberAt, stateOf, settled}
+use Rattle.tickets.proofs.Mark.{none-zero}
 use Rattle.tickets.proofs.Held.{held-none}
 use Rattle.tickets.proofs.Opened.{Opened, opened}
-use Rattle.tickets.proofs.Step.{in-range, cases, covers-kind, step-is}
+use Rattle.tickets.proofs.Reached.{Reached, reached-none, reached-with}
+use Rattle.tickets.proofs.Step.{step-is}
 
--- ---- what is covered
+pub reached : (w h : ℕ) (bs : List Batch) (i : ℕ) → Reached w h (covered w h bs i)
+unfolding covered
+reached w h bs zero = reached-none w h
+reached w h bs (suc i) = reached-with (reached w h bs i) (nth bs i)
 
-module _ (w h : ℕ) (bs : List Batch) where
-  -- a line that an accepted batch covers
-  newly : (i : ℕ) (row : Bool) (j : ℕ) → (accepted (answerTo w h (covered w h bs i false) (nth bs i)) && covers (nth bs i) row j) ≡ true
-      → (j < lineCount w h row) × ((row && not (every w (covered w h bs i false))) ≡ false)
-  newly i row j e =
-      let b = nth bs i in
-      let done = covered w h bs i false in
-      let two = both (accepted (answerTo w h done b)) (covers b row j) e in
-      let kind = covers-kind b row j (two .1) in
-      ⊎-elim
-      (λ x.
-      let range = rw (kind .0) at (x .1) in
-      (omega (arith, in-range (lineCount w h row) (b .start) (b .lines) range, within-lt (b .start) (b .lines) j (kind .1)), rw (kind .0) at (x .2)))
-      (λ r. absurd (false≢true (sym (ap accepted (r .is)) ∙ two .0)))
-      (cases w h done b)
-
-  -- is one that there is
-  pub inside : (i : ℕ) (row : Bool) (j : ℕ) → covered w h bs i row j ≡ true → j < lineCount w h row
-  unfolding covered
-  inside zero row j e = absurd (false≢true e)
-  inside (suc i) row j e = ⊎-elim (inside i row j) (λ a. newly i row j a .0) (either (covered w h bs i row j) _ e)
-
-  -- a row line is covered only once every column line is
-  ready : (i j : ℕ) → covered w h bs i true j ≡ true → every w (covered w h bs i false) ≡ true
-  unfolding covered
-  ready zero j e = absurd (false≢true e)
-  ready (suc i) j e =
-      let all : every w (covered w h bs i false) ≡ true =
-      ⊎-elim (ready i j) (λ a. not-false _ (newly i true j a .1)) (either (covered w h bs i true j) _ e) in
-      every-all w (covered w h bs (suc i) false) (λ k b. rw (every-each w (covered w h bs i false) all k b))
+-- the opening's ticket and buffers: no line is done
+pub opening-is : (w h ck rk : ℕ) (residuals scratch output : List ℤ)
+    → stateAt (newTicket w h ck rk) scratch output ≡ stateOf w h ck rk residuals scratch output (λ row j. false)
+unfolding stateOf ticketOf
+opening-is w h ck rk residuals scratch output =
+    rw (
+      none-zero (λ j. false) (λ j b. refl),
+      held-none h (numberAt w h ck rk residuals false) scratch,
+      held-none w (numberAt w h ck rk residuals true) output,
+    )
 
 -- ---- the list
 
@@ -65,20 +43,11 @@ module _ (w h ck rk : ℕ) (residuals scratch output : List ℤ) (o : Opened w h
 
   next-is : (i : ℕ) → step residuals (at i) (nth bs i) ≡ record { answer = answerTo w h (covered w h bs i false) (nth bs i); state = at (suc i) }
   unfolding covered
-  next-is i = step-is w h ck rk residuals scratch output o (covered w h bs i) (inside w h bs i) (ready w h bs i) (nth bs i)
-
-  first-is : from ≡ at 0
-  unfolding stateOf ticketOf covered
-  first-is =
-      rw (
-        none-zero (λ j. false) (λ j b. refl),
-        held-none h (numberAt w h ck rk residuals false) scratch,
-        held-none w (numberAt w h ck rk residuals true) output,
-      )
+  next-is i = step-is w h ck rk residuals scratch output o (reached w h bs i) (nth bs i)
 
   state-is : (i : ℕ) → stateAfter residuals from bs i ≡ at i
-  unfolding stateAfter
-  state-is zero = first-is
+  unfolding stateAfter covered
+  state-is zero = opening-is w h ck rk residuals scratch output
   state-is (suc i) = ap (λ (s : State). step residuals s (nth bs i) .state) (state-is i) ∙ ap (λ (s : Step). s .state) (next-is i)
 
   answer-is : (i : ℕ) → step residuals (stateAfter residuals from bs i) (nth bs i) .answer ≡ answerTo w h (covered w h bs i false) (nth bs i)

@@ -13,7 +13,7 @@ use Rattle.kernels.specs.Kernel.{hasKernel}
 use Rattle.residual.specs.Residual.{inLimit, residualsOk}
 use Rattle.block.specs.Answer.{hasKinds, refusals}
 use Rattle.tickets.specs.Mark.{marked, anyFrom, allMarked, within}
-use Rattle.tickets.specs.Batch.{Batch, batchOf, outOfRange, outOfOrder, batchAnswer}
+use Rattle.tickets.specs.Batch.{Batch, batchOf, outOfRange, outOfOrder, answerUnless, batchAnswer}
 use Rattle.tickets.specs.Open.{openAnswer, newTicket}
 use Rattle.tickets.specs.Run.{nth}
 use Rattle.tickets.specs.Condition3.{covers, answerTo, covered}
@@ -24,7 +24,7 @@ columnsOf w start lines = batchAnswer (newTicket w 32 0 0) (batchOf false start 
 
 pub batches : columnsOf 4 0 4 ∷ columnsOf 4 4 4 ∷ columnsOf 4 0 8 ∷ columnsOf 32 28 8 ∷ columnsOf 32 28 4 ∷ []
     ≡ answers 4 ∷ refuses 5 ∷ refuses 5 ∷ refuses 5 ∷ answers 4 ∷ []
-unfolding batchAnswer lowest isSide hasKinds hasKernel outOfRange outOfOrder anyFrom allMarked marked
+unfolding answerUnless lowest isSide hasKinds hasKernel outOfRange outOfOrder anyFrom allMarked marked
 batches = refl
 
 -- a row batch before the columns, a bad range, the columns, and the row batch again

@@ -5,5 +5,6 @@ pub mod Held
 pub mod Mark
 pub mod Opened
 pub mod Played
+pub mod Reached
 pub mod Reading
 pub mod Step

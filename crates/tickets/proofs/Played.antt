@@ -20,13 +20,14 @@ use Rattle.answer.specs.declared.Outcome.{Outcome}
 use Rattle.answer.specs.declared.Outcome.the-variants.{Done, Refused}
 use Rattle.answer.specs.declared.Refusal.{Refusal}
 use Rattle.answer.proofs.Answer.{passed, the-answer, small-if, guarded-small}
-use Rattle.tickets.specs.Batch.{Batch, batchOf, lineCount, batchAnswer, batch}
+use Rattle.tickets.specs.Batch.{Batch, batchOf, lineCount, answerUnless, batch}
 use Rattle.tickets.specs.Play.{batchesOf, playAnswer, Played, stateUnless, playedAs, played, stepGiven, playGiven, AsSettled}
 use Rattle.tickets.specs.Run.{State, stateAt, Step, Run, nth, step, stateAfter, run}
 use Rattle.tickets.specs.declared.Batched.{Batched}
 use Rattle.tickets.specs.declared.Ticket.{Ticket}
 use Rattle.tickets.proofs.Condition3.{condition3}
-use Rattle.tickets.proofs.Step.{in-range, step-column, step-row}
+use Rattle.tickets.proofs.Reached.{in-range}
+use Rattle.tickets.proofs.Step.{step-column, step-row}
 
 -- ---- a batch's answer is a number of 64 bits
 
@@ -34,9 +35,9 @@ skip : (b : Bool) (k : ℕ) (rs : List (Bool × ℕ)) (n : ℕ) → T (isSmall (
 unfolding lowest
 skip b k rs n t = small-if b k (lowest rs n) (λ e. t)
 
-pub answer-small : (t : Ticket) (b : Batch) (source target : ℕ) → T (isSmall (batchAnswer t b source target))
-unfolding batchAnswer
-answer-small t b source target =
+pub answer-small : (short : Bool) (t : Ticket) (b : Batch) (source target : ℕ) → T (isSmall (answerUnless short t b source target))
+unfolding answerUnless
+answer-small short t b source target =
     skip _ 1 _ _ (skip _ 2 _ _ (skip _ 3 _ _
     (guarded-small _ 5 _ _ (λ e. few (in-range (lineCount (t .w) (t .h) (b .row)) (b .start) (b .lines) e .few)))))
   where
@@ -47,8 +48,8 @@ pub step-small : (residuals : List ℤ) (s : State) (b : Batch) → T (isSmall (
 unfolding batch
 step-small residuals s b =
     ⊎-elim
-    (λ e. rw (step-row residuals s b e) (answer-small (s .ticket) b (length (s .scratch)) (length (s .output))))
-    (λ e. rw (step-column residuals s b e) (answer-small (s .ticket) b (length residuals) (length (s .scratch))))
+    (λ e. rw (step-row residuals s b e) (answer-small false (s .ticket) b (length (s .scratch)) (length (s .output))))
+    (λ e. rw (step-column residuals s b e) (answer-small false (s .ticket) b (length residuals) (length (s .scratch))))
     (decided (b .row))
 
 -- ---- a list that is played, whatever its batches give back and leave

@@ -1,71 +1,32 @@
 -- One batch of a list: its answer is the one settled from the lines done before it, and so is the state that it leaves.
 -- Assumes nothing.
 use mathlib.Core.Path.{_≡_, refl, sym, ap, _∙_}
-use mathlib.Core.Logic.{_⊎_, inl, inr, ⊎-elim}
+use mathlib.Core.Logic.{⊎-elim}
 use mathlib.Core.Bool.{Bool, true, false, cond, not, _&&_, _||_, Bool·beq, false≢true, or-false, and-false}
-use mathlib.Core.List.{List, [], _∷_}
-use Prim.Native.Nat.{ℕ, _+_, _-_, _*_, _%_, _<_, _≤_}
+use mathlib.Core.List.{List}
+use Prim.Native.Nat.{ℕ, _+_, _-_, _*_, _<_, _≤_}
 use native.Mathlib.Nat.{mul-comm, mul-le-mul-right, le-trans}
 use native.Mathlib.Omega.{arith}
-use borrow.Author.Tests.{le-ltb, ltb-false, not-false, eqb-true}
+use borrow.Author.Tests.{le-ltb, not-false}
 use lib.Arith.{digits-lt}
-use lib.Dec.{eqb, ltb}
 use lib.IntN.{ℤ}
 use lib.ListN.{length}
 use Rattle.laws.specs.Table.{every}
-use Rattle.laws.proofs.Bool.{both, either, neither, decided}
+use Rattle.laws.proofs.Bool.{decided}
 use Rattle.laws.proofs.Every.{every-all, every-each, every-same}
-use Rattle.answer.specs.Answer.{Answer, answers, refuses, lowest, after}
+use Rattle.answer.specs.Answer.{Answer, answers, lowest, after}
 use Rattle.sizes.proofs.Side.{side-bounds}
 use Rattle.block.specs.Lines.{columnLines, rowLines}
 use Rattle.block.proofs.Exact.{column-lines-exact, row-lines-exact}
 use Rattle.tickets.specs.Mark.{marked, maskOf, anyFrom, allMarked, within, withLines}
-use Rattle.tickets.specs.Batch.{Batch, lineCount, outOfRange, outOfOrder, batchAnswer, withBatch, linesOf, ticketAfter, Given, batch}
+use Rattle.tickets.specs.Batch.{Batch, lineCount, outOfRange, outOfOrder, answerUnless, batchAnswer, withBatch, linesOf, ticketAfter, Given, batch}
 use Rattle.tickets.specs.Run.{State, Step, columnStep, rowStep, step}
-use Rattle.tickets.specs.Condition3.{covers, answerTo, accepted, ticketOf, held, numberAt, stateOf}
+use Rattle.tickets.specs.Condition3.{covers, answerTo, accepted, coveredWith, ticketOf, held, numberAt, stateOf}
 use Rattle.tickets.specs.declared.Ticket.{Ticket}
 use Rattle.tickets.proofs.Mark.{marked-mask, mask-same}
 use Rattle.tickets.proofs.Held.{held-length, held-line, held-same, held-more}
 use Rattle.tickets.proofs.Opened.{Opened}
-
--- ---- a batch within its range, and an accepted one
-
-pub record InRange (count start lines : ℕ) : Type 0 where
-  pub end : start + lines ≤ count
-  pub few : lines ≤ 8
-
-pub in-range : (count start lines : ℕ) → outOfRange count start lines ≡ false → InRange count start lines
-unfolding outOfRange
-in-range count start lines e =
-    let more = eqb lines 4 || eqb lines 8 in
-    let off = more && not (eqb (start % 4) 0) in
-    let past = ltb count (start + lines) in
-    let a = neither (not (eqb lines 1 || more)) (off || past) e in
-    record {
-      end = ltb-false count (start + lines) (neither off past (a .1) .1);
-      few = ⊎-elim (λ u. omega (arith, eqb-true lines 1 u))
-          (λ r. ⊎-elim (λ u. omega (arith, eqb-true lines 4 u)) (λ u. omega (arith, eqb-true lines 8 u)) (either (eqb lines 4) (eqb lines 8) r))
-          (either (eqb lines 1) more (not-false (eqb lines 1 || more) (a .0)));
-    }
-
-pub record Refuses (a : Answer) : Type 0 where
-  pub number : ℕ
-  pub is : a ≡ refuses number
-
--- two tests: the call is accepted with neither, or refused
-either-way : (x y : Bool) (j k n : ℕ)
-    → ((lowest ((x, j) ∷ (y, k) ∷ []) n ≡ answers n) × (x ≡ false) × (y ≡ false)) ⊎ Refuses (lowest ((x, j) ∷ (y, k) ∷ []) n)
-unfolding lowest
-either-way true y j k n = inr (record { number = j; is = refl })
-either-way false true j k n = inr (record { number = k; is = refl })
-either-way false false j k n = inl (refl, refl, refl)
-
-pub cases : (w h : ℕ) (p : ℕ → Bool) (b : Batch)
-    → ((answerTo w h p b ≡ answers (b .lines)) × (outOfRange (lineCount w h (b .row)) (b .start) (b .lines) ≡ false)
-    × ((b .row && not (every w p)) ≡ false))
-    ⊎ Refuses (answerTo w h p b)
-unfolding answerTo
-cases w h p b = either-way (outOfRange (lineCount w h (b .row)) (b .start) (b .lines)) (b .row && not (every w p)) 5 6 (b .lines)
+use Rattle.tickets.proofs.Reached.{Reached, Refuses, cases, in-range}
 
 -- ---- the order of batches
 
@@ -106,18 +67,6 @@ covers-own : (b : Batch) (row : Bool) (j : ℕ) → b .row ≡ row → covers b 
 unfolding covers
 covers-own b true j e = rw e
 covers-own b false j e = rw e
-
--- a batch that covers a line is of the line's kind
-pub covers-kind : (b : Batch) (row : Bool) (j : ℕ) → covers b row j ≡ true → (b .row ≡ row) × (within (b .start) (b .lines) j ≡ true)
-unfolding covers
-covers-kind b row j e =
-    let k = both (Bool·beq (b .row) row) (within (b .start) (b .lines) j) e in (same-kind (b .row) row (k .0), k .1)
-  where
-    same-kind : (x y : Bool) → Bool·beq x y ≡ true → x ≡ y
-    same-kind true true e = refl
-    same-kind true false e = sym e
-    same-kind false true e = e
-    same-kind false false e = refl
 
 covers-other : (b : Batch) (row : Bool) (j : ℕ) → b .row ≡ not row → covers b row j ≡ false
 unfolding covers
@@ -161,8 +110,7 @@ given-same p q r = rw (p, q, r)
 -- ---- one batch, after batches that have done the lines that done names
 
 module _ (w h ck rk : ℕ) (residuals scratch output : List ℤ) (o : Opened w h ck rk residuals (length scratch) (length output))
-    (done : Bool → ℕ → Bool) (inside : (row : Bool) (j : ℕ) → done row j ≡ true → j < lineCount w h row)
-    (ready : (j : ℕ) → done true j ≡ true → every w (done false) ≡ true) (b : Batch) where
+    {done : Bool → ℕ → Bool} (reached : Reached w h done) (b : Batch) where
   abbrev t : Ticket
   t = ticketOf w h ck rk done
 
@@ -171,7 +119,7 @@ module _ (w h ck rk : ℕ) (residuals scratch output : List ℤ) (o : Opened w h
 
   -- the lines done after the batch
   abbrev then : Bool → ℕ → Bool
-  then row j = done row j || (accepted answer && covers b row j)
+  then = coveredWith w h done b
 
   w-few : w ≤ 32
   w-few = side-bounds w (o .block .wide) .high
@@ -180,12 +128,12 @@ module _ (w h ck rk : ℕ) (residuals scratch output : List ℤ) (o : Opened w h
   h-few = side-bounds h (o .block .high) .high
 
   outside : (row : Bool) (j : ℕ) → lineCount w h row ≤ j → done row j ≡ false
-  outside row j past = ⊎-elim (λ a. absurd (omega (arith, inside row j a))) (λ a. a) (decided (done row j))
+  outside row j past = ⊎-elim (λ a. absurd (omega (arith, reached .inside row j a))) (λ a. a) (decided (done row j))
 
   no-rows : every w (done false) ≡ false → (j : ℕ) → done true j ≡ false
-  no-rows e j = ⊎-elim (λ a. absurd (false≢true (sym e ∙ ready j a))) (λ a. a) (decided (done true j))
+  no-rows e j = ⊎-elim (λ a. absurd (false≢true (sym e ∙ reached .ready j a))) (λ a. a) (decided (done true j))
 
-  order-is : outOfOrder t (b .row) ≡ (b .row && not (every w (done false)))
+  pub order-is : outOfOrder t (b .row) ≡ (b .row && not (every w (done false)))
   unfolding outOfOrder ticketOf
   order-is =
       rw (any-none w (done false) w-few (outside false), any-none h (done true) h-few (outside true), all-is w (done false) w-few)
@@ -193,7 +141,7 @@ module _ (w h ck rk : ℕ) (residuals scratch output : List ℤ) (o : Opened w h
       (λ e. any-none 0 (done true) (omega arith) (λ j l. no-rows e j)))
 
   answer-is : (source target : ℕ) → w * h ≤ source → w * h ≤ target → batchAnswer t b source target ≡ answer
-  unfolding batchAnswer answerTo lowest ticketOf
+  unfolding answerUnless answerTo lowest ticketOf
   answer-is source target a c =
       rw (order-is, o .block .wide, o .block .high, o .kinds, le-ltb source (w * h) a, le-ltb target (w * h) c)
 
@@ -242,7 +190,7 @@ module _ (w h ck rk : ℕ) (residuals scratch output : List ℤ) (o : Opened w h
       way)
 
   -- a batch of a kind does the other kind's lines not at all, and its own where it is accepted
-  own : (row : Bool) → b .row ≡ row → answer ≡ answers (b .lines) → (j : ℕ) → (done row j || within (b .start) (b .lines) j) ≡ then row j
+  pub own : (row : Bool) → b .row ≡ row → answer ≡ answers (b .lines) → (j : ℕ) → (done row j || within (b .start) (b .lines) j) ≡ then row j
   own row k e j = ap (λ (x : Bool). done row j || x) (sym (covers-own b row j k)) ∙ adds e row j
 
   others : (row : Bool) → b .row ≡ not row → (j : ℕ) → done row j ≡ then row j
@@ -257,13 +205,13 @@ module _ (w h ck rk : ℕ) (residuals scratch output : List ℤ) (o : Opened w h
   abbrev outputOf : (ℕ → Bool) → List ℤ
   outputOf p = held w p (numberAt w h ck rk residuals true) output
 
-  long-scratch : w * h ≤ length (scratchOf (done false))
+  pub long-scratch : w * h ≤ length (scratchOf (done false))
   long-scratch = omega (arith, o .block .scratch-long, held-length h (done false) (numberAt w h ck rk residuals false) scratch)
 
-  long-output : w * h ≤ length (outputOf (done true))
+  pub long-output : w * h ≤ length (outputOf (done true))
   long-output = omega (arith, o .block .output-long, held-length w (done true) (numberAt w h ck rk residuals true) output)
 
-  column-written : b .row ≡ false → answer ≡ answers (b .lines) → fitsIn → linesOf t b residuals (scratchOf (done false)) ≡ scratchOf (then false)
+  pub column-written : b .row ≡ false → answer ≡ answers (b .lines) → fitsIn → linesOf t b residuals (scratchOf (done false)) ≡ scratchOf (then false)
   unfolding ticketOf numberAt
   column-written k e r =
       let room : b .start + b .lines ≤ w = in-range w (b .start) (b .lines) (rw k at r) .end in
@@ -274,7 +222,7 @@ module _ (w h ck rk : ℕ) (residuals scratch output : List ℤ) (o : Opened w h
       (le-trans (mul-le-mul-right h room) (o .block .scratch-long))
       ∙ held-same h _ (then false) (numberAt w h ck rk residuals false) scratch (own false k e))
 
-  row-written : b .row ≡ true → answer ≡ answers (b .lines) → fitsIn → inTurn
+  pub row-written : b .row ≡ true → answer ≡ answers (b .lines) → fitsIn → inTurn
       → linesOf t b (scratchOf (done false)) (outputOf (done true)) ≡ outputOf (then true)
   unfolding ticketOf numberAt
   row-written k e r q =

@@ -1,5 +1,5 @@
 -- What a batch gives back: its answer, the ticket and the buffer that it writes ("Tickets", and numbers 1, 2, 3, 5 and 6).
-use mathlib.Core.Bool.{Bool, cond, not, _&&_, _||_}
+use mathlib.Core.Bool.{Bool, false, cond, not, _&&_, _||_}
 use mathlib.Core.List.{List, [], _∷_}
 use Prim.Native.Nat.{ℕ, _+_, _*_, _%_}
 use lib.Dec.{eqb, ltb}
@@ -26,10 +26,18 @@ batchOf row start lines = record { row = row; start = start; lines = lines }
 abbrev pub lineCount : ℕ → ℕ → Bool → ℕ
 lineCount w h row = cond row h w
 
+-- how many numbers such a line has: h a column line, w a row line
+abbrev pub lineLength : ℕ → ℕ → Bool → ℕ
+lineLength w h row = cond row w h
+
+-- "1, 4 or 8 lines"
+abbrev pub isCount : ℕ → Bool
+isCount lines = eqb lines 1 || (eqb lines 4 || eqb lines 8)
+
 -- number 5: "a batch isn't 1, 4 or 8 lines, a start of 4 or 8 lines isn't a multiple of 4, or its end passes the line count"
 unfoldable pub outOfRange : ℕ → ℕ → ℕ → Bool
 outOfRange count start lines =
-    not (eqb lines 1 || (eqb lines 4 || eqb lines 8))
+    not (isCount lines)
     || (((eqb lines 4 || eqb lines 8) && not (eqb (start % 4) 0)) || ltb count (start + lines))
 
 -- number 6: "a ticket has a mark past its line count; or has row marks with a column unmarked; or a row batch is asked with a
@@ -39,16 +47,21 @@ outOfOrder t row =
     anyFrom (t .w) (t .columns)
     || (anyFrom (t .h) (t .rows) || (not (allMarked (t .w) (t .columns)) && (anyFrom 0 (t .rows) || row)))
 
--- "batches 1, 2, 3, 5, 6", of a batch that is lent a buffer of length source to read and one of length target to write
-unfoldable pub batchAnswer : Ticket → Batch → ℕ → ℕ → Answer
-batchAnswer t b source target =
+-- "batches 1, 2, 3, 5, 6", of a batch that is lent a buffer of length source to read and one of length target to write. short: a
+-- further lent buffer is shorter than its documented part
+unfoldable pub answerUnless : Bool → Ticket → Batch → ℕ → ℕ → Answer
+answerUnless short t b source target =
     lowest
     ((not (isSide (t .w) && isSide (t .h)), 1) ∷
     (not (hasKinds (t .w) (t .h) (t .«column_kind») (t .«row_kind»)), 2) ∷
-    (ltb source (t .w * t .h) || ltb target (t .w * t .h), 3) ∷
+    (short || (ltb source (t .w * t .h) || ltb target (t .w * t .h)), 3) ∷
     (outOfRange (lineCount (t .w) (t .h) (b .row)) (b .start) (b .lines), 5) ∷
     (outOfOrder t (b .row), 6) ∷ [])
     (b .lines)
+
+-- a batch has no further buffer
+abbrev pub batchAnswer : Ticket → Batch → ℕ → ℕ → Answer
+batchAnswer t b source target = answerUnless false t b source target
 
 -- "marks them" and "No batch takes a mark away"
 unfoldable pub withBatch : Ticket → Batch → Ticket

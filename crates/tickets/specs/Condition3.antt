@@ -34,11 +34,15 @@ abbrev pub accepted : Answer → Bool
 accepted (answers n) = true
 accepted (refuses k) = false
 
--- an accepted batch among the first i of the list covers line j, a row line or a column line
+-- the lines that accepted batches cover once one batch more has come: done row j where one before it covers line j, a row line or a
+-- column line
+abbrev pub coveredWith : ℕ → ℕ → (Bool → ℕ → Bool) → Batch → Bool → ℕ → Bool
+coveredWith w h done b row j = done row j || (accepted (answerTo w h (done false) b) && covers b row j)
+
+-- an accepted batch among the first i of the list covers line j
 unfoldable pub covered : ℕ → ℕ → List Batch → ℕ → Bool → ℕ → Bool
 covered w h bs zero row j = false
-covered w h bs (suc i) row j =
-    covered w h bs i row j || (accepted (answerTo w h (covered w h bs i false) (nth bs i)) && covers (nth bs i) row j)
+covered w h bs (suc i) row j = coveredWith w h (covered w h bs i) (nth bs i) row j
 
 -- "the opening's sides and kinds, with just the marks of the lines that accepted batches have covered so far": done row j where one
 -- covers line j

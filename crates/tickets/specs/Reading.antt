@@ -8,22 +8,21 @@ use lib.IntN.{ℤ, pos}
 use lib.ListN.{length, getD}
 use Rattle.block.specs.Block.{columnAt, rowAt}
 use Rattle.tickets.specs.Mark.{marked}
-use Rattle.tickets.specs.Batch.{Batch, lineCount}
+use Rattle.tickets.specs.Batch.{lineCount}
 use Rattle.tickets.specs.Run.{State}
-use Rattle.tickets.specs.Condition3.{covered}
 
--- of the state after the list bs; a line that is covered is one that the block has
-pub record Reading (w h ck rk : ℕ) (residuals scratch output : List ℤ) (bs : List Batch) (after : State) : Type 0 where
-  pub covers : (row : Bool) (j : ℕ) → covered w h bs (length bs) row j ≡ true → j < lineCount w h row
-  pub columns-marked : (j : ℕ) → j < 32 → marked (after .ticket .columns) j ≡ covered w h bs (length bs) false j
-  pub rows-marked : (j : ℕ) → j < 32 → marked (after .ticket .rows) j ≡ covered w h bs (length bs) true j
-  pub columns-hold : (j f : ℕ) → f < h → covered w h bs (length bs) false j ≡ true
+-- of the state after a list: covered row j where an accepted batch in it covers line j. A line that is covered is one that the block has
+pub record Reading (w h ck rk : ℕ) (residuals scratch output : List ℤ) (covered : Bool → ℕ → Bool) (after : State) : Type 0 where
+  pub covers : (row : Bool) (j : ℕ) → covered row j ≡ true → j < lineCount w h row
+  pub columns-marked : (j : ℕ) → j < 32 → marked (after .ticket .columns) j ≡ covered false j
+  pub rows-marked : (j : ℕ) → j < 32 → marked (after .ticket .rows) j ≡ covered true j
+  pub columns-hold : (j f : ℕ) → f < h → covered false j ≡ true
       → getD (after .scratch) (j * h + f) (pos 0) ≡ columnAt w h ck residuals j f
-  pub rows-hold : (j f : ℕ) → f < w → covered w h bs (length bs) true j ≡ true
+  pub rows-hold : (j f : ℕ) → f < w → covered true j ≡ true
       → getD (after .output) (j * w + f) (pos 0) ≡ rowAt w h ck rk residuals j f
   pub scratch-long : length (after .scratch) ≡ length scratch
   pub output-long : length (after .output) ≡ length output
-  pub scratch-kept : (p : ℕ) → p < length scratch → covered w h bs (length bs) false (p / h) ≡ false
+  pub scratch-kept : (p : ℕ) → p < length scratch → covered false (p / h) ≡ false
       → getD (after .scratch) p (pos 0) ≡ getD scratch p (pos 0)
-  pub output-kept : (p : ℕ) → p < length output → covered w h bs (length bs) true (p / w) ≡ false
+  pub output-kept : (p : ℕ) → p < length output → covered true (p / w) ≡ false
       → getD (after .output) p (pos 0) ≡ getD output p (pos 0)

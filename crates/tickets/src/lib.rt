@@ -10,7 +10,7 @@ ghost use Rattle.tickets.specs.Run.{stateAt, step};
 ghost use Rattle.tickets.specs.Play.{areKinds, playAnswer, stepGiven, playGiven, played, AsSettled};
 ghost use Rattle.tickets.specs.Open.{newTicket, Opening};
 ghost use Rattle.tickets.specs.Mark.{anyFrom, allMarked, withLines};
-ghost use Rattle.tickets.specs.Batch.{batchOf, lineCount, outOfRange, outOfOrder, batchAnswer, withBatch, batch, gives};
+ghost use Rattle.tickets.specs.Batch.{batchOf, lineCount, outOfRange, outOfOrder, answerUnless, withBatch, batch, gives};
 
 // Document 01: "A ticket holds sides, kinds and one mark per column line and row line." Bit j of a mask is the mark of line j;
 // a mask has room for a mark past the line count, which every batch refuses.
@@ -152,7 +152,9 @@ fn line_count(t: Ticket, row: bool) -> usize
 }
 
 // The outcome of a batch that is lent buffers of these lengths to read and to write: the lowest number that applies, or its lines.
-fn batch_outcome(
+// short: a further lent buffer is too short.
+pub fn batch_outcome(
+    short: bool,
     t: Ticket,
     row: bool,
     start: usize,
@@ -160,7 +162,7 @@ fn batch_outcome(
     source: usize,
     target: usize,
 ) -> Outcome
-    ensures { λ r. ⌜ told r ≡ batchAnswer t (batchOf row start lines) source target ⌝ }
+    ensures { λ r. ⌜ told r ≡ answerUnless short t (batchOf row start lines) source target ⌝ }
 {
     if !(sizes::is_side(t.w) & sizes::is_side(t.h)) {
         return Outcome::Refused(Refusal::BadSize);
@@ -169,7 +171,7 @@ fn batch_outcome(
         return Outcome::Refused(Refusal::BadKind);
     }
     let size = t.w * t.h;
-    if (source < size) | (target < size) {
+    if short | ((source < size) | (target < size)) {
         return Outcome::Refused(Refusal::ShortBuffer);
     }
     if out_of_range(line_count(t, row), start, lines) {
@@ -191,7 +193,15 @@ pub fn column_batch(
 ) -> Batched
     ensures { λ r. ⌜ gives r (now (scratch .exit)) ≡ batch ticket (batchOf false start lines) (now (residuals .entry)) (now (scratch .entry)) ⌝ }
 {
-    let outcome = batch_outcome(ticket, false, start, lines, residuals.len(), scratch.len());
+    let outcome = batch_outcome(
+        false,
+        ticket,
+        false,
+        start,
+        lines,
+        residuals.len(),
+        scratch.len(),
+    );
     let Outcome::Done(_) = outcome else {
         return Batched { ticket, outcome };
     };
@@ -215,7 +225,15 @@ pub fn row_batch(
 ) -> Batched
     ensures { λ r. ⌜ gives r (now (output .exit)) ≡ batch ticket (batchOf true start lines) (now (scratch .entry)) (now (output .entry)) ⌝ }
 {
-    let outcome = batch_outcome(ticket, true, start, lines, scratch.len(), output.len());
+    let outcome = batch_outcome(
+        false,
+        ticket,
+        true,
+        start,
+        lines,
+        scratch.len(),
+        output.len(),
+    );
     let Outcome::Done(_) = outcome else {
         return Batched { ticket, outcome };
     };

@@ -49,7 +49,7 @@ row-lines-requires : tie.Need-row-lines-requires
 row-lines-requires c κs =
     let at = c .before .before .before .before .before in
     let a = at .before .before .before .args in
-    subst (λ (l : ℕ). LinesRoom (a .w) (a .h) (hasKernel (a .row-kind) (a .w)) (0 + a .h) (a .h) l (length (a .output .now)))
+    subst (λ (l : ℕ). LinesRoom (a .w) (a .h) (hasKernel (a .row-kind) (a .w)) (0 + a .h) (a .h) (a .w) l (length (a .output .now)))
     (sym (c .before .before .before .column-lines .kept .1 .1 .1 .1 .1 .1 .0)) (rows-asked (is-accepted at))
 
 same-length : tie.Need-same-length

@@ -9,7 +9,7 @@ use lib.ListN.{replicate}
 use Rattle.kernels.proofs.Mirror.{mirror}
 use Rattle.lines.specs.Line.{lineAt}
 use Rattle.lines.proofs.Line.{dct-line, line-place}
-use Rattle.lines.proofs.Reach.{halving}
+use Rattle.lines.proofs.Reach.{whole, halving}
 use Rattle.lines.proofs.Stage.{IsKernel, Partly, begin, stage, finish}
 use Rattle.lanes.proofs.Kernel.{lent-rows}
 use Rattle.lanes.proofs.dct16_line.Statement.{statement}
@@ -66,7 +66,7 @@ halve-requires : tie.Need-halve-requires
 halve-requires c κs =
     let p = c .before .before .before in
     let r = p .pre .0 in
-    halving 16 8 1 refl (lit≤ tt) (lit< tt) (lit< tt) (table p) (r .low) (r .high) (r .inside) (r .src) (lit≤ tt) (lit≤ tt)
+    halving 16 8 1 refl (lit≤ tt) (lit< tt) (lit< tt) (table p) (r .low) (r .high) (r .src) (lit≤ tt) (lit≤ tt)
 
 slice-aggregate-halve-3 : tie.Need-slice-aggregate-halve-3
 slice-aggregate-halve-3 c = search needs
@@ -81,8 +81,8 @@ halve-requires-2 : tie.Need-halve-requires-2
 halve-requires-2 c κs =
     let p = c .before .before .before .before .before .before in
     let r = start1 p .pre .0 in
-    halving 16 4 2 refl (lit≤ tt) (lit< tt) (lit< tt) (table (start1 p)) (r .low) (r .high) (lit< tt)
-    (subst (λ (l : ℕ). 8 ≤ l) (sym (p .halve .kept .1 .1 .1 .1 .1 .1 .1 .0)) (lit≤ tt)) (lit≤ tt) (done1 p .long)
+    halving 16 4 2 refl (lit≤ tt) (lit< tt) (lit< tt) (table (start1 p)) (r .low) (r .high)
+    (whole 8 (subst (λ (l : ℕ). 8 ≤ l) (sym (p .halve .kept .1 .1 .1 .1 .1 .1 .1 .0)) (lit≤ tt))) (lit≤ tt) (done1 p .long)
 
 slice-aggregate-halve-6 : tie.Need-slice-aggregate-halve-6
 slice-aggregate-halve-6 c = search needs
@@ -97,8 +97,8 @@ halve-requires-3 : tie.Need-halve-requires-3
 halve-requires-3 c κs =
     let p = c .before .before .before .before .before .before in
     let r = start2 p .pre .0 in
-    halving 16 2 4 refl (lit≤ tt) (lit< tt) (lit< tt) (table (start2 p)) (r .low) (r .high) (lit< tt)
-    (subst (λ (l : ℕ). 4 ≤ l) (sym (p .halve2 .kept .1 .1 .1 .1 .1 .1 .1 .0)) (lit≤ tt)) (lit≤ tt) (done2 p .long)
+    halving 16 2 4 refl (lit≤ tt) (lit< tt) (lit< tt) (table (start2 p)) (r .low) (r .high)
+    (whole 4 (subst (λ (l : ℕ). 4 ≤ l) (sym (p .halve2 .kept .1 .1 .1 .1 .1 .1 .1 .0)) (lit≤ tt))) (lit≤ tt) (done2 p .long)
 
 slice-aggregate-halve-9 : tie.Need-slice-aggregate-halve-9
 slice-aggregate-halve-9 c = search needs
@@ -113,8 +113,8 @@ halve-requires-4 : tie.Need-halve-requires-4
 halve-requires-4 c κs =
     let p = c .before .before .before .before .before .before in
     let r = start3 p .pre .0 in
-    halving 16 1 8 refl (lit≤ tt) (lit< tt) (lit< tt) (table (start3 p)) (r .low) (r .high) (lit< tt)
-    (subst (λ (l : ℕ). 2 ≤ l) (sym (p .halve3 .kept .1 .1 .1 .1 .1 .1 .1 .0)) (lit≤ tt)) (lit≤ tt) (done3 p .long)
+    halving 16 1 8 refl (lit≤ tt) (lit< tt) (lit< tt) (table (start3 p)) (r .low) (r .high)
+    (whole 2 (subst (λ (l : ℕ). 2 ≤ l) (sym (p .halve3 .kept .1 .1 .1 .1 .1 .1 .1 .0)) (lit≤ tt))) (lit≤ tt) (done3 p .long)
 
 slice-aggregate-zeroth : tie.Need-slice-aggregate-zeroth
 slice-aggregate-zeroth c = search needs

@@ -3,13 +3,13 @@ use mathlib.Core.Path.{refl, ap, ap₂, _∙_}
 use Prim.Native.Nat.{ℕ, _+_, _*_, _-_, _≤_, _<_}
 use native.Mathlib.Omega.{arith}
 use borrow.Author.Needs.{needs}
-use lib.Arith.{digits-lt}
 use lib.IntN.{ℤ, pos, _+ℤ_, _-ℤ_}
-use lib.ListN.{getD}
+use lib.ListN.{length, getD}
 use Rattle.laws.specs.Integer.{wrap32}
 use Rattle.laws.proofs.Store.{Stored, stored-none, stored-turn, stored-all, stored-length, stores-in}
 use Rattle.fixed.proofs.Machine.{read-32}
 use Rattle.lines.specs.Line.{lineAt, sumOf, diffOf}
+use Rattle.lines.proofs.Reach.{reaches}
 use Rattle.lines.proofs.fold.Statement.{statement}
 use Rattle.lines.proofs.fold.Tie as tie
 
@@ -23,11 +23,11 @@ abbrev μ-loop : tie.MeasureT-loop
 μ-loop h x at stride s₀ d₀ k₀ s d k = h - k
 
 -- where a turn reads
-front : (c : tie.In-loop Inv-loop μ-loop) → c .before .loop .k * c .before .before .args .stride + c .before .before .args .at < 2 * c .before .before .args .h * c .before .before .args .stride
-front c = digits-lt (omega arith) (c .before .before .pre .1)
+front : (c : tie.In-loop Inv-loop μ-loop) → c .before .loop .k * c .before .before .args .stride + c .before .before .args .at < length (c .before .before .args .x .now)
+front c = reaches (c .before .loop .k) (omega arith) (c .before .before .pre .1)
 
-back : (c : tie.In-loop Inv-loop μ-loop) → (2 * c .before .before .args .h - 1 - c .before .loop .k) * c .before .before .args .stride + c .before .before .args .at < 2 * c .before .before .args .h * c .before .before .args .stride
-back c = digits-lt (omega arith) (c .before .before .pre .1)
+back : (c : tie.In-loop Inv-loop μ-loop) → (2 * c .before .before .args .h - 1 - c .before .loop .k) * c .before .before .args .stride + c .before .before .args .at < length (c .before .before .args .x .now)
+back c = reaches (2 * c .before .before .args .h - 1 - c .before .loop .k) (omega arith) (c .before .before .pre .1)
 
 loop-holds : tie.Need-loop-holds Inv-loop μ-loop
 loop-holds c = (stored-none, stored-none, omega arith)

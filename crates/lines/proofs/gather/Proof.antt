@@ -3,12 +3,12 @@ use mathlib.Core.Path.{refl, ap, _∙_}
 use mathlib.Core.List.{List}
 use Prim.Native.Nat.{ℕ, _+_, _*_, _-_, _≤_, _<_}
 use native.Mathlib.Omega.{arith}
-use lib.Arith.{digits-lt}
 use lib.IntN.{ℤ, pos}
-use lib.ListN.{getD}
+use lib.ListN.{length, getD}
 use Rattle.laws.proofs.Store.{Stored, stored-none, stored-turn, stored-all, stored-length, stores-in}
 use Rattle.fixed.proofs.Machine.{read-32}
 use Rattle.lines.specs.Line.{lineAt}
+use Rattle.lines.proofs.Reach.{reaches}
 use Rattle.lines.proofs.gather.Statement.{statement}
 use Rattle.lines.proofs.gather.Tie as tie
 
@@ -21,8 +21,8 @@ Inv-loop n src at stride x₀ k₀ x k = Stored x x₀ k self (lineAt src at str
 abbrev μ-loop : tie.MeasureT-loop
 μ-loop n src at stride x₀ k₀ x k = n - k
 
-in-line : (c : tie.In-loop Inv-loop μ-loop) → c .before .loop .k * c .before .before .args .stride + c .before .before .args .at < c .before .before .args .n * c .before .before .args .stride
-in-line c = digits-lt (c .loop-test .taken) (c .before .before .pre .0)
+in-line : (c : tie.In-loop Inv-loop μ-loop) → c .before .loop .k * c .before .before .args .stride + c .before .before .args .at < length (c .before .before .args .src .now)
+in-line c = reaches (c .before .loop .k) (c .loop-test .taken) (c .before .before .pre .0)
 
 loop-holds : tie.Need-loop-holds Inv-loop μ-loop
 loop-holds c = (stored-none, omega arith)

@@ -2,14 +2,12 @@
 use mathlib.Core.Path.{_≡_, refl, sym, _∙_, subst}
 use mathlib.Core.List.{List, [], _∷_}
 use Prim.Native.Nat.{_*_, _/_}
-use native.Mathlib.Nat.{mul-one}
 use native.Mathlib.Omega.{arith}
 use borrow.Author.Needs.{needs}
-use lib.Dec.{lit<}
 use lib.IntN.{ℤ, pos}
 use lib.ListN.{length}
 use Rattle.lines.proofs.Line.{dct-line, line-place}
-use Rattle.lines.proofs.Reach.{halving}
+use Rattle.lines.proofs.Reach.{whole, halving}
 use Rattle.lines.proofs.Stage.{IsKernel, finish}
 use Rattle.passes.proofs.Going.{Going, whole-table, going-start, turn, going-next, going-end}
 use Rattle.passes.proofs.dct_line.Statement.{statement}
@@ -37,7 +35,7 @@ slice-aggregate-gather c = search needs
 gather-requires : tie.Need-gather-requires Inv-loop μ-loop
 gather-requires c κs =
     let r = c .before .pre .0 in
-    (r .inside, r .src, r .side)
+    (r .src, r .side)
 
 loop-holds : tie.Need-loop-holds Inv-loop μ-loop
 loop-holds c =
@@ -60,8 +58,8 @@ halve-requires c κs =
     let r = p .pre .0 in
     let u = turn (l .inv .0) (r .some) (r .side) (c .before .before .before .before .loop-test .taken) in
     let w = u .whole in
-    halving (p .args .n) (l .m / 2) (l .step) (u .product) (r .side) (u .some) (u .step-some) (table p) (r .low) (r .high) (lit< tt)
-    (omega (arith, l .inv .1, u .few, mul-one (2 * (l .m / 2)))) (omega (arith, l .inv .2, u .few)) (omega (arith, l .inv .3))
+    halving (p .args .n) (l .m / 2) (l .step) (u .product) (r .side) (u .some) (u .step-some) (table p) (r .low) (r .high)
+    (whole (2 * (l .m / 2)) (omega (arith, l .inv .1, u .few))) (omega (arith, l .inv .2, u .few)) (omega (arith, l .inv .3))
 
 mul-step : tie.Need-mul-step Inv-loop μ-loop
 mul-step c =

@@ -1,7 +1,8 @@
 -- `probe::probe_lanes` meets its contract. Assumes nothing.
 use mathlib.Core.Path.{_≡_, sym, ap, _∙_, subst}
 use mathlib.Core.Bool.{Bool, true, false, cond}
-use Prim.Native.Nat.{_+_, _≤_, _^_}
+use Prim.Native.Nat.{ℕ, _+_, _≤_, _^_}
+use native.Mathlib.Nat.{zero-add}
 use native.Mathlib.Omega.{arith}
 use borrow.Author.Needs.{needs}
 use borrow.Author.Tests.{ltb-false}
@@ -17,6 +18,7 @@ use Rattle.answer.specs.declared.Outcome.the-variants.{Done}
 use Rattle.answer.proofs.Answer.{kept, written, signed-asked, signed-given}
 use Rattle.lines.specs.Pass.{passLines}
 use Rattle.lines.specs.Room.{Room}
+use Rattle.lines.proofs.Loop.{some-lines}
 use Rattle.passes.specs.Answer.{passAnswer}
 use Rattle.passes.proofs.Accepted.{Accepted, accepted, pass-small}
 use Rattle.probe.specs.Lanes.{andThen, lanesAnswer, lanesAfter}
@@ -76,8 +78,9 @@ room : (c : tie.Else1) →
     let a = c .before .before .before .before .before .args in
     Room (a .side) (a .line) (a .start) (a .lines) (natAbs (a .shift)) (length (a .src .now)) (length (a .dst .now))
 room c =
-    let r = is-accepted (c .before .before) .room in
-    record { small = r .small; ends = ends c; src = r .src; dst = r .dst; low = r .low; high = r .high }
+    let a = c .before .before .before .before .before .args in
+    subst (λ (i : ℕ). Room (a .side) (a .line) i (a .lines) (natAbs (a .shift)) (length (a .src .now)) (length (a .dst .now))) (zero-add (a .start))
+    (some-lines (a .start) (a .lines) (is-accepted (c .before .before) .room) (ends c))
 
 admit-requires : tie.Need-admit-requires
 admit-requires c κs = search needs

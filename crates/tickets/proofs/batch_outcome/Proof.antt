@@ -12,7 +12,7 @@ use Rattle.answer.specs.Answer.{lowest}
 use Rattle.sizes.specs.Size.{isSide}
 use Rattle.sizes.proofs.Side.{side-bounds}
 use Rattle.block.specs.Answer.{hasKinds}
-use Rattle.tickets.specs.Batch.{batchOf, lineCount, outOfRange, outOfOrder, batchAnswer}
+use Rattle.tickets.specs.Batch.{batchOf, lineCount, outOfRange, outOfOrder, answerUnless}
 use Rattle.tickets.proofs.batch_outcome.Statement.{statement}
 use Rattle.tickets.proofs.batch_outcome.Tie as tie
 
@@ -37,8 +37,8 @@ range-test c =
 -- past the four tests only the last number is left
 past-range : (c : tie.Else4) →
     let a = c .before .before .before .before .before .before .before .before .before .before .args in
-    batchAnswer (a .t) (batchOf (a .row) (a .start) (a .lines)) (a .source) (a .target) ≡ lowest ((outOfOrder (a .t) (a .row), 6) ∷ []) (a .lines)
-unfolding batchAnswer lowest
+    answerUnless (a .short) (a .t) (batchOf (a .row) (a .start) (a .lines)) (a .source) (a .target) ≡ lowest ((outOfOrder (a .t) (a .row), 6) ∷ []) (a .lines)
+unfolding answerUnless lowest
 past-range c =
     let s = sides (c .before .before .before .before .before .before .before) in
     rw (s .0, s .1, kinds (c .before .before .before .before .before), c .before .before .before .if3 .left, range-test (c .before) ∙ c .if4 .left)
@@ -50,14 +50,14 @@ is-side-requires-2 : tie.Need-is-side-requires-2
 is-side-requires-2 c κs = search needs
 
 returns : tie.Need-returns
-unfolding batchAnswer lowest
+unfolding answerUnless lowest
 returns c = rw (sides-test (c .before) (not-true _ (c .if1 .taken)))
 
 has-kinds-requires : tie.Need-has-kinds-requires
 has-kinds-requires c κs = search needs
 
 returns-2 : tie.Need-returns-2
-unfolding batchAnswer lowest
+unfolding answerUnless lowest
 returns-2 c = rw (sides (c .before .before) .0, sides (c .before .before) .1, sym (c .before .has-kinds .ensures) ∙ not-true _ (c .if2 .taken))
 
 mul-size : tie.Need-mul-size
@@ -66,7 +66,7 @@ mul-size c =
     omega (arith, mul-le-mul (side-bounds _ (s .0) .high) (side-bounds _ (s .1) .high))
 
 returns-3 : tie.Need-returns-3
-unfolding batchAnswer lowest
+unfolding answerUnless lowest
 returns-3 c =
     let s = sides (c .before .before .before .before) in rw (s .0, s .1, kinds (c .before .before), c .if3 .taken)
 
@@ -77,7 +77,7 @@ out-of-range-requires : tie.Need-out-of-range-requires
 out-of-range-requires c κs = search needs
 
 returns-4 : tie.Need-returns-4
-unfolding batchAnswer lowest
+unfolding answerUnless lowest
 returns-4 c =
     let s = sides (c .before .before .before .before .before .before .before) in
     rw (s .0, s .1, kinds (c .before .before .before .before .before), c .before .before .before .if3 .left, range-test (c .before) ∙ c .if4 .taken)

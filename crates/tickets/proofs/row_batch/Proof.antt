@@ -1,10 +1,12 @@
 -- `tickets::row_batch` meets its contract: the two ways out are the two cases of `batch`. Assumes nothing.
 use mathlib.Core.Path.{sym, ap, _∙_}
 use mathlib.Core.Bool.{true}
+use native.Mathlib.Nat.{mul-comm}
 use native.Mathlib.Omega.{arith}
 use borrow.Author.Needs.{needs}
 use lib.ListN.{length}
 use Rattle.answer.specs.Answer.{told}
+use Rattle.block.proofs.LineRoom.{lines-asked}
 use Rattle.sizes.proofs.Side.{side-bounds}
 use Rattle.tickets.specs.Batch.{batchOf, linesOf}
 use Rattle.tickets.proofs.Batch.{Taken, taken, refused-is, accepted-is}
@@ -14,7 +16,7 @@ use Rattle.tickets.proofs.row_batch.Tie as tie
 -- past the test the batch is accepted
 is-taken : (c : tie.After-enum-told) →
     let a = c .before .before .before .args in Taken (a .ticket) (batchOf true (a .start) (a .lines)) (length (a .scratch .now)) (length (a .output .now))
-is-taken c = taken _ _ _ _ _ (sym (ap told (c .enum-told .given .1)) ∙ c .before .before .batch-outcome .ensures)
+is-taken c = taken _ _ _ _ _ _ (sym (ap told (c .enum-told .given .1)) ∙ c .before .before .batch-outcome .ensures)
 
 batch-outcome-requires : tie.Need-batch-outcome-requires
 batch-outcome-requires c κs = search needs
@@ -34,7 +36,7 @@ returns c =
 row-lines-requires : tie.Need-row-lines-requires
 row-lines-requires c κs =
     let k = is-taken (c .before) in
-    record { wide = k .wide; high = k .high; kernel = k .kernel; ends = omega (arith, k .ends); source-long = k .source-long; target-long = k .target-long }
+    lines-asked (k .wide) (k .high) (k .kernel) (omega (arith, k .ends)) (mul-comm _ _) (k .source-long) (k .target-long)
 
 with-batch-requires : tie.Need-with-batch-requires
 with-batch-requires c κs = let k = is-taken (c .before .before .before) in omega (arith, side-bounds _ (k .high))

@@ -1,0 +1,3 @@
+-- What the proofs of both previews use.
+mod Entry
+mod Signed

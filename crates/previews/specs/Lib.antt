@@ -1,0 +1,4 @@
+pub mod Preview
+pub mod OnCopies
+pub mod Calls
+pub mod Condition3
