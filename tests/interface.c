@@ -146,21 +146,24 @@ static void expect_kept(const char *what, const struct work *work, size_t writte
     expect_all(what, work->preview + written, 33 - written, 7);
 }
 
+/* A preview that gave back `answer` was refused for this reason, and has changed nothing. */
+static void expect_refused(const char *what, const struct work *work, int64_t answer, enum mizdrek_refusal reason)
+{
+    expect(what, answer, -(int64_t)reason);
+    expect_kept(what, work, 0);
+}
+
 static void refused_previews(struct work *work)
 {
-    expect("rows first, in a preview", preview_rows(work, 33, 0, 4), -MIZDREK_BATCH_ORDER);
-    expect_kept("a preview of rows first", work, 0);
-    expect("a preview buffer short for columns", preview_columns(work, 15, 0, 4), -MIZDREK_SHORT_BUFFER);
-    expect_kept("a preview short for columns", work, 0);
-    expect("a preview buffer short for rows", preview_rows(work, 31, 0, 4), -MIZDREK_SHORT_BUFFER);
-    expect_kept("a preview short for rows", work, 0);
-    expect("two columns in an empty preview", preview_columns(work, 0, 0, 2), -MIZDREK_BATCH_RANGE);
-    expect_kept("a preview of two columns", work, 0);
-    expect("two rows in an empty preview", preview_rows(work, 0, 0, 2), -MIZDREK_BATCH_RANGE);
-    expect_kept("a preview of two rows", work, 0);
+    expect_refused("rows first", work, preview_rows(work, 33, 0, 4), MIZDREK_BATCH_ORDER);
+    expect_refused("a preview short for 1 column", work, preview_columns(work, 3, 0, 1), MIZDREK_SHORT_BUFFER);
+    expect_refused("a preview short for 4 columns", work, preview_columns(work, 15, 0, 4), MIZDREK_SHORT_BUFFER);
+    expect_refused("a preview short for 8 columns", work, preview_columns(work, 31, 0, 8), MIZDREK_SHORT_BUFFER);
+    expect_refused("a preview short for 4 rows", work, preview_rows(work, 31, 0, 4), MIZDREK_SHORT_BUFFER);
+    expect_refused("two columns in an empty preview", work, preview_columns(work, 0, 0, 2), MIZDREK_BATCH_RANGE);
+    expect_refused("two rows in an empty preview", work, preview_rows(work, 0, 0, 2), MIZDREK_BATCH_RANGE);
     work->ticket.w = SIZE_MAX;
-    expect("rows of a made-up ticket", preview_rows(work, 0, 0, 8), -MIZDREK_BAD_SIZE);
-    expect_kept("a preview of a made-up ticket", work, 0);
+    expect_refused("rows of a made-up ticket", work, preview_rows(work, 0, 0, 8), MIZDREK_BAD_SIZE);
     work->ticket.w = 8;
     expect_all("scratch of refused previews", work->scratch, 32, 7);
     expect_all("output of refused previews", work->output, 32, 7);

@@ -114,28 +114,26 @@ module _ (bs : List Batch) where
   covered-alone w h zero = refl
   covered-alone w h (suc i) = ap₂ (λ (d : Bool → ℕ → Bool) (c : Call). coveredNext w h d c) (covered-alone w h i) (nth-is i)
 
-pub batches-alone : (w h ck rk : ℕ) (residuals scratch output : List ℤ) (s : State) (bs : List Batch)
-    → BatchesAlone w h ck rk residuals scratch output s bs
+pub batches-alone : BatchesAlone
 unfolding run settled batches.run alone.settled
 batches-alone w h ck rk residuals scratch output s bs =
     let same = length-map bs runs in
     let state = state-alone bs residuals s in
-    let done = covered-alone bs w h in
-    record {
-      run-same = rw same
+    let done = covered-alone bs w h in (
+      rw same
           (rw (
             length-tab (length bs) (λ i. step residuals (batches.stateAfter residuals s bs i) (batches.nth bs i) .answer),
             tab-ext (length bs) _ _ (λ i b. ap₂ (λ (x : State) (c : Call). turn residuals x c .answer) (state i) (nth-is bs i)),
             tab-ext (length bs) _ _ (λ i b. ap₂ (λ (x : State) (c : Call). turn residuals x c .shown) (state i) (nth-is bs i)),
             tab-ext (length bs) _ _ (λ i b. ap (λ (x : State). x .ticket) (state (suc i))),
             state (length bs),
-          ));
-      settled-same = rw same
+          )),
+      rw same
           (rw (
             length-tab (length bs) (λ i. answerTo w h (alone.covered w h bs i false) (batches.nth bs i)),
             tab-ext (length bs) _ _ (λ i b. ap₂ (λ (d : Bool → ℕ → Bool) (c : Call). answerToCall w h (d false) c) (done i) (nth-is bs i)),
             tab-ext (length bs) _ _ (λ i b. ap₂ (λ (d : Bool → ℕ → Bool) (c : Call). shownBy w h ck rk residuals (d false) c) (done i) (nth-is bs i)),
             tab-ext (length bs) _ _ (λ i b. ap (ticketOf w h ck rk) (done (suc i))),
             done (length bs),
-          ));
-    }
+          )),
+    )

@@ -1,19 +1,18 @@
 -- One preview in a list of calls, after batches that have covered the lines that done names: its answer and its numbers are those settled from
 -- these lines. Assumes nothing.
 use mathlib.Core.Path.{_≡_, refl, sym, ap, subst, _∙_}
-use mathlib.Core.Bool.{Bool, true, false, cond, not, _&&_, _||_, or-false, or-true}
+use mathlib.Core.Bool.{Bool, true, false, cond, not, _&&_, _||_, or-true}
 use mathlib.Core.Logic.{⊎-elim}
 use mathlib.Core.List.{List}
 use Prim.Native.Nat.{ℕ, _+_, _*_, _/_, _%_, _≤_, _<_}
 use native.Mathlib.Nat.{add-mul, mul-comm, mul-le-mul-right, mod-lt, div-add-mod', div-lt-iff-lt-mul}
 use native.Mathlib.Omega.{arith}
-use borrow.Author.Tests.{le-ltb}
 use lib.IntN.{ℤ, pos}
 use lib.ListN.{length, getD}
 use Rattle.laws.specs.Table.{every}
 use Rattle.laws.proofs.Bool.{decided}
 use Rattle.laws.proofs.Laid.{laid-ext}
-use Rattle.answer.specs.Answer.{Answer, answers, refuses, lowest, after}
+use Rattle.answer.specs.Answer.{Answer, answers, refuses, after}
 use Rattle.sizes.proofs.Side.{side-bounds}
 use Rattle.tickets.specs.Batch.{Batch, lineCount, lineLength, outOfRange, answerUnless, linesOf, batch}
 use Rattle.tickets.specs.Run.{State}
@@ -23,11 +22,11 @@ use Rattle.tickets.proofs.Mark.{within-in}
 use Rattle.tickets.proofs.Held.{held-line}
 use Rattle.tickets.proofs.Opened.{Opened}
 use Rattle.tickets.proofs.Reached.{Reached, cases, in-range}
-use Rattle.tickets.proofs.Step.{order-is, own, long-scratch, long-output, column-written, row-written}
-use Rattle.previews.specs.Preview.{isShort, previewAnswer, linesShown, Preview, previewOf}
+use Rattle.tickets.proofs.Step.{answer-is, own, long-scratch, long-output, column-written, row-written}
+use Rattle.previews.specs.Preview.{isShort, linesShown, Preview, previewOf}
 use Rattle.previews.specs.Calls.{previewAt}
 use Rattle.previews.specs.Condition3.{answerToPreview, withLinesOf}
-use Rattle.previews.proofs.Preview.{preview-same}
+use Rattle.previews.proofs.Preview.{ran, preview-same}
 
 module _ (w h ck rk : ℕ) (residuals scratch output : List ℤ) (o : Opened w h ck rk residuals (length scratch) (length output))
     {done : Bool → ℕ → Bool} (reached : Reached w h done) (b : Batch) (room : List ℤ) where
@@ -53,33 +52,14 @@ module _ (w h ck rk : ℕ) (residuals scratch output : List ℤ) (o : Opened w h
         shown = after (answerToPreview w h (done false) b (length room)) (withLinesOf w h ck rk residuals b room) room;
       }
 
-  -- a preview's answer: number 3 by its buffer, else its batch's
-  short-first : answerToPreview w h (done false) b (length room) ≡ cond short (refuses 3) answer
-  unfolding answerToPreview answerTo lowest
-  short-first = refl
-
-  unless-is : (source target : ℕ) → w * h ≤ source → w * h ≤ target → (x : Bool) → answerUnless x t b source target ≡ cond x (refuses 3) answer
-  unfolding answerUnless answerTo lowest ticketOf
-  unless-is source target a c x =
-      rw (
-        order-is w h ck rk residuals scratch output o reached b,
-        o .block .wide,
-        o .block .high,
-        o .kinds,
-        le-ltb source (w * h) a,
-        le-ltb target (w * h) c,
-        or-false x,
-      )
-
   -- the lines of an accepted batch, where the buffer that it writes then holds the numbers of the lines covered
   module _ (source target opening : List ℤ) (some : 0 < n) (ls : w * h ≤ length source) (lt : w * h ≤ length target)
       (long : lineCount w h (b .row) * n ≤ length opening)
       (written : answer ≡ answers (b .lines) → outOfRange (lineCount w h (b .row)) (b .start) (b .lines) ≡ false
       → (b .row && not (every w (done false))) ≡ false
       → linesOf t b source target ≡ held n (then (b .row)) (numberAt w h ck rk residuals (b .row)) opening) where
-    ran : answer ≡ answers (b .lines) → batch t b source target .buffer ≡ linesOf t b source target
-    unfolding batch
-    ran e = rw (unless-is (length source) (length target) ls lt false ∙ e)
+    unless : (x : Bool) → answerUnless x t b (length source) (length target) ≡ cond x (refuses 3) answer
+    unless x = answer-is w h ck rk residuals scratch output o reached b x (length source) (length target) ls lt
 
     number-is : answer ≡ answers (b .lines) → outOfRange (lineCount w h (b .row)) (b .start) (b .lines) ≡ false
         → (b .row && not (every w (done false))) ≡ false → (p : ℕ) → p < b .lines * n
@@ -91,7 +71,7 @@ module _ (w h ck rk : ℕ) (residuals scratch output : List ℤ) (o : Opened w h
         let at : b .start * n + p ≡ j * n + p % n = omega (arith, add-mul (b .start) (p / n) n, div-add-mod' p n) in
         let in-list : b .start * n + p < length opening =
         omega (arith, long, add-mul (b .start) (b .lines) n, mul-le-mul-right n end) in
-        ap (λ (d : List ℤ). getD d (b .start * n + p) (pos 0)) (ran e ∙ written e r q)
+        ap (λ (d : List ℤ). getD d (b .start * n + p) (pos 0)) (ran t b source target (sym (unless false ∙ e)) ∙ written e r q)
         ∙ ap (λ (k : ℕ). getD (held n (then (b .row)) (numberAt w h ck rk residuals (b .row)) opening) k (pos 0)) at
         ∙ held-line n (then (b .row)) (numberAt w h ck rk residuals (b .row)) opening j (p % n) (mod-lt p some) (omega (arith, at))
         (sym (own w h ck rk residuals scratch output o reached b (b .row) refl e j)
@@ -115,12 +95,7 @@ module _ (w h ck rk : ℕ) (residuals scratch output : List ℤ) (o : Opened w h
     of-buffers : previewOf t b source target room ≡ settled
     unfolding previewOf ticketOf
     of-buffers =
-        let is : previewAnswer t b (length source) (length target) (length room) ≡ cond short (refuses 3) answer =
-        unless-is (length source) (length target) ls lt short in
-        preview-same (is ∙ sym short-first)
-        (ap (λ (a : Answer). after a (linesShown t b source target room) room) is
-        ∙ shown-same
-        ∙ ap (λ (a : Answer). after a (withLinesOf w h ck rk residuals b room) room) (sym short-first))
+        preview-same (unless short) (ap (λ (a : Answer). after a (linesShown t b source target room) room) (unless short) ∙ shown-same)
 
   abbrev before : State
   before = stateOf w h ck rk residuals scratch output done

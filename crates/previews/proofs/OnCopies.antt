@@ -13,7 +13,7 @@ use Rattle.answer.specs.Answer.{Answer, answers, refuses, lowest, after}
 use Rattle.tickets.specs.Batch.{Batch, lineLength, answerUnless, batch}
 use Rattle.tickets.specs.declared.Ticket.{Ticket}
 use Rattle.previews.specs.Preview.{isShort, previewAnswer, linesShown, previewOf}
-use Rattle.previews.specs.OnCopies.{OnCopies, shortToo}
+use Rattle.previews.specs.OnCopies.{BesideBatch, OnCopies, shortToo}
 use Rattle.previews.proofs.Preview.{accepted}
 
 -- the five tests of a batch, with a buffer more that is short
@@ -70,9 +70,9 @@ module _ (t : Ticket) (b : Batch) (source target room : List ℤ) where
   shown-long (answers m) e = ap length (shown-is e) ∙ length-laid room 0 (b .lines * side) _ (omega (arith, room-long e))
   shown-long (refuses k) e = ap (λ (a : Answer). length (after a (linesShown t b source target room) room)) e
 
-  pub on-copies : OnCopies t b source target room
+  beside-batch : BesideBatch t b source target room
   unfolding previewOf batch
-  on-copies =
+  beside-batch =
       record {
         same-answer = by-buffer;
         short-answer = λ e. by-buffer e ∙ short-answer;
@@ -81,3 +81,6 @@ module _ (t : Ticket) (b : Batch) (source target room : List ℤ) where
         long = shown-long answer refl;
         refused = λ k e. ap (λ (a : Answer). after a (linesShown t b source target room) room) e;
       }
+
+pub on-copies : OnCopies
+on-copies = beside-batch

@@ -1,31 +1,31 @@
 -- What an accepted preview knows of its arguments, what the lines of a batch are, whatever stands in the buffer that they are written to,
 -- and the two ways out of a preview. Assumes nothing.
 use mathlib.Core.Path.{_≡_, refl, sym, ap, _∙_}
-use mathlib.Core.Bool.{Bool, true, false, cond, not, _&&_}
+use mathlib.Core.Bool.{Bool, true, false, cond, _&&_}
 use mathlib.Core.List.{List}
 use Prim.Native.Nat.{ℕ, _+_, _*_, _/_, _%_, _-_, _≤_, _<_}
 use native.Mathlib.Nat.{add-mul, zero-add, zero-mul, mul-comm, mul-le-mul-left, mul-le-mul-right, div-lt-iff-lt-mul}
 use native.Mathlib.Omega.{arith}
 use borrow.Rule.Slice.PartAt.{part-to-end}
-use borrow.Author.Tests.{not-false, ltb-false, ltb-true, lt-ltb, ne-eqb}
+use borrow.Author.Tests.{ltb-false, ltb-true, lt-ltb, ne-eqb}
 use lib.Dec.{ltb}
 use lib.IntN.{ℤ, pos}
 use lib.ListN.{length, getD, take, drop, length-drop}
 use Rattle.laws.specs.Store.{laid}
-use Rattle.laws.proofs.Bool.{neither, same-test}
+use Rattle.laws.proofs.Bool.{same-test}
 use Rattle.laws.proofs.Laid.{laid-at, laid-ext}
 use Rattle.answer.specs.Answer.{Answer, answers, told}
 use Rattle.answer.specs.declared.Refusal.{Refusal}
 use Rattle.answer.specs.declared.Outcome.{Outcome}
 use Rattle.answer.specs.declared.Outcome.the-variants.{Done, Refused}
-use Rattle.answer.proofs.Answer.{passed, written}
+use Rattle.answer.proofs.Answer.{written}
 use Rattle.sizes.proofs.Side.{side-bounds}
 use Rattle.sizes.specs.Shift.{firstShift, secondShift}
 use Rattle.lines.specs.Pass.{passAt, passLines}
 use Rattle.lines.proofs.From.{pass-from}
 use Rattle.block.specs.Block.{rescaled}
 use Rattle.block.specs.Lines.{LinesRoom, columnLines, rowLines}
-use Rattle.tickets.specs.Batch.{Batch, batchOf, isCount, lineCount, lineLength, outOfRange, answerUnless, batchAnswer, linesOf, batch}
+use Rattle.tickets.specs.Batch.{Batch, batchOf, isCount, lineCount, lineLength, answerUnless, batchAnswer, linesOf, batch}
 use Rattle.tickets.specs.declared.Ticket.{Ticket}
 use Rattle.tickets.proofs.Batch.{Taken, kernelOf, taken}
 use Rattle.previews.specs.Preview.{isShort, previewAnswer, Preview, shows, linesShown, previewOf}
@@ -47,34 +47,26 @@ never-short lines n room a b c = rw (ne-eqb lines 1 a, ne-eqb lines 4 b, ne-eqb 
 
 -- ---- an accepted preview
 
-pub record Shown (t : Ticket) (b : Batch) (source target room n : ℕ) : Type 0 where
+pub record Shown (t : Ticket) (b : Batch) (source target room : ℕ) : Type 0 where
   pub taken : Taken t b source target
   pub long : b .lines * lineLength (t .w) (t .h) (b .row) ≤ room
-  pub batch-too : answers n ≡ batchAnswer t b source target
-
-is-count : (count start lines : ℕ) → outOfRange count start lines ≡ false → isCount lines ≡ true
-unfolding outOfRange
-is-count count start lines e = not-false _ (neither (not (isCount lines)) _ e .0)
-
-count-of : (short : Bool) (t : Ticket) (b : Batch) (source target n : ℕ) → answers n ≡ answerUnless short t b source target
-    → (short ≡ false) × (isCount (b .lines) ≡ true)
-unfolding answerUnless
-count-of short t b source target n e =
-    let s3 = passed _ 3 _ _ n (passed _ 2 _ _ n (passed _ 1 _ _ n e .1) .1) in
-    (neither short _ (s3 .0) .0, is-count (lineCount (t .w) (t .h) (b .row)) (b .start) (b .lines) (passed _ 5 _ _ n (s3 .1) .0))
+  pub answer : answers (b .lines) ≡ previewAnswer t b source target room
+  pub batch-too : answers (b .lines) ≡ batchAnswer t b source target
 
 long-enough : (lines n room : ℕ) → isCount lines ≡ true → isShort lines n room ≡ false → lines * n ≤ room
 unfolding isShort
 long-enough lines n room c e = ltb-false room (lines * n) (sym (ap (λ (x : Bool). x && ltb room (lines * n)) c) ∙ e)
 
-pub accepted : (t : Ticket) (b : Batch) (source target room n : ℕ) → answers n ≡ previewAnswer t b source target room → Shown t b source target room n
+pub accepted : (t : Ticket) (b : Batch) (source target room n : ℕ) → answers n ≡ previewAnswer t b source target room → Shown t b source target room
 accepted t b source target room n e =
     let side = lineLength (t .w) (t .h) (b .row) in
-    let c = count-of (isShort (b .lines) side room) t b source target n e in
+    let k = taken (isShort (b .lines) side room) t b source target n e in
+    let is : answers (b .lines) ≡ previewAnswer t b source target room = ap answers (sym (k .2)) ∙ e in
     record {
-      taken = taken (isShort (b .lines) side room) t b source target n e;
-      long = long-enough (b .lines) side room (c .1) (c .0);
-      batch-too = e ∙ ap (λ (s : Bool). answerUnless s t b source target) (c .0);
+      taken = k .0;
+      long = long-enough (b .lines) side room (k .0 .counted) (k .1);
+      answer = is;
+      batch-too = is ∙ ap (λ (s : Bool). answerUnless s t b source target) (k .1);
     }
 
 -- ---- the lines of a batch
@@ -101,7 +93,7 @@ ends-in t false start lines e = omega (arith, add-mul start lines (t .h), mul-le
 
 -- the batch, accepted, has them in the buffer that it writes
 module _ (t : Ticket) (b : Batch) (source target : List ℤ) where
-  ran : {n : ℕ} → answers n ≡ batchAnswer t b (length source) (length target) → batch t b source target .buffer ≡ linesOf t b source target
+  pub ran : {n : ℕ} → answers n ≡ batchAnswer t b (length source) (length target) → batch t b source target .buffer ≡ linesOf t b source target
   unfolding batch
   ran e = rw (sym e)
 
@@ -136,7 +128,7 @@ front-lines t row start lines source d =
     ∙ laid-ext d 0 (lines * n) _ _ (λ p l. number-from t row start lines source p)
 
 -- the batch's first line is one of the source's
-pub begins : (t : Ticket) (row : Bool) {start lines source target room n : ℕ} → Shown t (batchOf row start lines) source target room n
+pub begins : (t : Ticket) (row : Bool) {start lines source target room : ℕ} → Shown t (batchOf row start lines) source target room
     → (start ≤ 32) × (start ≤ source)
 begins t true s =
     let k = s .taken in
@@ -146,8 +138,8 @@ begins t false s =
     (omega (arith, k .ends, side-bounds (t .w) (k .wide)), omega (arith, k .ends, k .source-long, mul-le-mul-left (t .w) (side-bounds (t .h) (k .high) .low)))
 
 -- what is asked of the buffers for them
-pub front-asked : (t : Ticket) (row : Bool) (start lines : ℕ) (source : List ℤ) {target room n : ℕ}
-    → Shown t (batchOf row start lines) (length source) target room n
+pub front-asked : (t : Ticket) (row : Bool) (start lines : ℕ) (source : List ℤ) {target room : ℕ}
+    → Shown t (batchOf row start lines) (length source) target room
     → LinesRoom (t .w) (t .h) (kernelOf t row) (0 + lines) (lineCount (t .w) (t .h) row) (lineLength (t .w) (t .h) row)
     (length (take (length source - start) (drop start source))) room
 front-asked t row start lines source s =
@@ -175,16 +167,14 @@ module _ (t : Ticket) (row : Bool) (start lines : ℕ) (source target room : Lis
   unfolding previewOf
   not-shown e r = rw (sym e, r)
 
-  pub is-shown : {o : Outcome} {n : ℕ} {shown : List ℤ} → told o ≡ previewAnswer t b (length source) (length target) (length room) → o ≡ Done n
+  pub is-shown : {shown : List ℤ} → Shown t b (length source) (length target) (length room)
       → shown ≡ linesOf t (batchOf row 0 lines) (take (length source - start) (drop start source)) room
-      → shows o shown ≡ previewOf t b source target room
+      → shows (Done lines) shown ≡ previewOf t b source target room
   unfolding previewOf
-  is-shown {o} {n} {shown} e d w =
-      let a : answers n ≡ previewAnswer t b (length source) (length target) (length room) = sym (ap told d) ∙ e in
-      let k = accepted t b (length source) (length target) (length room) n a in
+  is-shown {shown} k w =
       let is : shown ≡ linesShown t b source target room =
       w
       ∙ ap (λ (part : List ℤ). linesOf t (batchOf row 0 lines) part room) (part-to-end source start)
       ∙ front-lines t row start lines source room
       ∙ laid-ext room 0 (lines * lineLength (t .w) (t .h) row) _ _ (λ p l. sym (number-is t b source target (k .taken) (k .batch-too) p l)) in
-      preview-same e (written room a is)
+      preview-same (k .answer) (written room (k .answer) is)

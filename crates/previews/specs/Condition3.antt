@@ -1,15 +1,14 @@
 -- "Condition 3 holds with previews between batches": what every list of calls from an accepted opening gives back, shows and leaves, settled
 -- from the list and the opening alone. The list of batches alone is a special case: `BatchesAlone`.
 use mathlib.Core.Path.{_≡_}
-use mathlib.Core.Bool.{Bool, false, not, _&&_}
-use mathlib.Core.List.{List, [], _∷_, map}
+use mathlib.Core.Bool.{Bool, false, cond}
+use mathlib.Core.List.{List, [], map}
 use Prim.Native.Nat.{ℕ, zero, suc, _+_, _*_, _/_, _%_}
 use lib.IntN.{ℤ}
 use lib.ListN.{length}
 use Rattle.laws.specs.Store.{tab, laid}
-use Rattle.laws.specs.Table.{every}
-use Rattle.answer.specs.Answer.{Answer, answers, lowest, after}
-use Rattle.tickets.specs.Batch.{Batch, lineCount, lineLength, outOfRange}
+use Rattle.answer.specs.Answer.{Answer, answers, refuses, after}
+use Rattle.tickets.specs.Batch.{Batch, lineLength}
 use Rattle.tickets.specs.Open.{openAnswer, newTicket}
 use Rattle.tickets.specs.Run as batches
 use Rattle.tickets.specs.Run.{State, stateAt}
@@ -31,13 +30,9 @@ covered w h cs (suc i) row j = coveredNext w h (covered w h cs i) (nth cs i) row
 
 -- the answer to a preview into a buffer of length room: number 3 by the buffer, else the batch's. done j: an accepted batch before it covers
 -- column line j
-unfoldable pub answerToPreview : ℕ → ℕ → (ℕ → Bool) → Batch → ℕ → Answer
+abbrev pub answerToPreview : ℕ → ℕ → (ℕ → Bool) → Batch → ℕ → Answer
 answerToPreview w h done b room =
-    lowest
-    ((isShort (b .lines) (lineLength w h (b .row)) room, 3) ∷
-    (outOfRange (lineCount w h (b .row)) (b .start) (b .lines), 5) ∷
-    (b .row && not (every w done), 6) ∷ [])
-    (b .lines)
+    cond (isShort (b .lines) (lineLength w h (b .row)) room) (refuses 3) (answerTo w h done b)
 
 abbrev pub answerToCall : ℕ → ℕ → (ℕ → Bool) → Call → Answer
 answerToCall w h done (runs b) = answerTo w h done b
@@ -67,8 +62,8 @@ settled w h ck rk residuals scratch output cs =
 -- for every list of calls on one block, run from its accepted opening
 abbrev pub Condition3 : Type 0
 Condition3 =
-    (w h ck rk : ℕ) (residuals scratch output : List ℤ) → openAnswer w h ck rk residuals (length scratch) (length output) ≡ answers 0
-    → (cs : List Call) → run residuals (stateAt (newTicket w h ck rk) scratch output) cs ≡ settled w h ck rk residuals scratch output cs
+    (w h ck rk : ℕ) (residuals scratch output : List ℤ) → openAnswer w h ck rk residuals (length scratch) (length output) ≡ answers 0 → (cs : List Call)
+    → run residuals (stateAt (newTicket w h ck rk) scratch output) cs ≡ settled w h ck rk residuals scratch output cs
 
 -- and the state after it, place by place
 abbrev pub PlaceByPlace : Type 0
@@ -82,7 +77,9 @@ abbrev pub showingNothing : batches.Run → Run
 showingNothing r =
     record { answers = r .answers; shown = tab (length (r .answers)) (λ i. []); tickets = r .tickets; state = r .state }
 
--- a list of batches alone is run, and settled, as document 01's condition 3 has it
-pub record BatchesAlone (w h ck rk : ℕ) (residuals scratch output : List ℤ) (s : State) (bs : List Batch) : Type 0 where
-  pub run-same : run residuals s (map runs bs) ≡ showingNothing (batches.run residuals s bs)
-  pub settled-same : settled w h ck rk residuals scratch output (map runs bs) ≡ showingNothing (alone.settled w h ck rk residuals scratch output bs)
+-- every list of batches alone is run, and settled, as document 01's condition 3 has it
+abbrev pub BatchesAlone : Type 0
+BatchesAlone =
+    (w h ck rk : ℕ) (residuals scratch output : List ℤ) (s : State) (bs : List Batch)
+    → (run residuals s (map runs bs) ≡ showingNothing (batches.run residuals s bs))
+    × (settled w h ck rk residuals scratch output (map runs bs) ≡ showingNothing (alone.settled w h ck rk residuals scratch output bs))

@@ -2,3 +2,4 @@ pub mod Preview
 pub mod OnCopies
 pub mod Calls
 pub mod Condition3
+pub mod Examples

@@ -16,7 +16,8 @@ abbrev pub shortToo : Answer → Answer
 shortToo (answers n) = refuses 3
 shortToo (refuses k) = refuses (min k 3)
 
-pub record OnCopies (t : Ticket) (b : Batch) (source target room : List ℤ) : Type 0 where
+-- one preview, and the batch that it shows, lent the same buffers
+pub record BesideBatch (t : Ticket) (b : Batch) (source target room : List ℤ) : Type 0 where
   pub same-answer : isShort (b .lines) (lineLength (t .w) (t .h) (b .row)) (length room) ≡ false
       → previewOf t b source target room .answer ≡ batch t b source target .answer
   pub short-answer : isShort (b .lines) (lineLength (t .w) (t .h) (b .row)) (length room) ≡ true
@@ -30,3 +31,7 @@ pub record OnCopies (t : Ticket) (b : Batch) (source target room : List ℤ) : T
       → getD (previewOf t b source target room .shown) p (pos 0) ≡ getD room p (pos 0)
   pub long : length (previewOf t b source target room .shown) ≡ length room
   pub refused : (k : ℕ) → previewOf t b source target room .answer ≡ refuses k → previewOf t b source target room .shown ≡ room
+
+-- for every ticket, every batch and every buffer, a ticket that nobody opened among them
+abbrev pub OnCopies : Type 0
+OnCopies = (t : Ticket) (b : Batch) (source target room : List ℤ) → BesideBatch t b source target room

@@ -74,10 +74,10 @@ fn preview_lines(
     let from = &source[start..];
     if row {
         block::row_lines(w, h, ticket.row_kind, 0, lines, from, preview);
-        return outcome;
+        return Outcome::Done(lines);
     }
     block::column_lines(w, h, ticket.column_kind, 0, lines, from, preview);
-    outcome
+    Outcome::Done(lines)
 }
 
 // The lines that a column batch would write to scratch, into the front of the preview buffer.

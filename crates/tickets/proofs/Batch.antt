@@ -13,11 +13,11 @@ use Rattle.answer.specs.Answer.{answers, told}
 use Rattle.answer.specs.declared.Refusal.{Refusal}
 use Rattle.answer.specs.declared.Outcome.{Outcome}
 use Rattle.answer.specs.declared.Outcome.the-variants.{Done, Refused}
-use Rattle.answer.proofs.Answer.{passed}
+use Rattle.answer.proofs.Answer.{passed, the-answer}
 use Rattle.sizes.specs.Size.{isSide}
 use Rattle.kernels.specs.Kernel.{hasKernel}
 use Rattle.block.specs.Answer.{hasKinds}
-use Rattle.tickets.specs.Batch.{Batch, batchOf, lineCount, answerUnless, batchAnswer, withBatch, linesOf, gives, batch}
+use Rattle.tickets.specs.Batch.{Batch, batchOf, isCount, lineCount, answerUnless, batchAnswer, withBatch, linesOf, gives, batch}
 use Rattle.tickets.specs.Play.{stepGiven}
 use Rattle.tickets.specs.Run.{stateAt, columnStep, rowStep, step}
 use Rattle.tickets.specs.declared.Batched.{Batched}
@@ -32,6 +32,7 @@ pub record Taken (t : Ticket) (b : Batch) (source target : ℕ) : Type 0 where
   pub wide : isSide (t .w) ≡ true
   pub high : isSide (t .h) ≡ true
   pub kernel : kernelOf t (b .row) ≡ true
+  pub counted : isCount (b .lines) ≡ true
   pub ends : b .start + b .lines ≤ lineCount (t .w) (t .h) (b .row)
   pub source-long : t .w * t .h ≤ source
   pub target-long : t .w * t .h ≤ target
@@ -47,23 +48,31 @@ has-kernel t row e =
     pick true p q = p
     pick false p q = q
 
-pub taken : (short : Bool) (t : Ticket) (b : Batch) (source target n : ℕ) → answers n ≡ answerUnless short t b source target → Taken t b source target
+-- an accepted batch, which answers its lines: no further buffer is short
+pub taken : (short : Bool) (t : Ticket) (b : Batch) (source target n : ℕ) → answers n ≡ answerUnless short t b source target
+    → Taken t b source target × (short ≡ false) × (n ≡ b .lines)
 unfolding answerUnless
 taken short t b source target n e =
     let s1 = passed _ 1 _ _ n e in
     let s2 = passed _ 2 _ _ n (s1 .1) in
     let s3 = passed _ 3 _ _ n (s2 .1) in
     let s5 = passed _ 5 _ _ n (s3 .1) in
+    let s6 = passed _ 6 _ _ n (s5 .1) in
     let sides = both (isSide (t .w)) (isSide (t .h)) (not-false _ (s1 .0)) in
-    let long = neither (ltb source (t .w * t .h)) (ltb target (t .w * t .h)) (neither short _ (s3 .0) .1) in
+    let room = neither short _ (s3 .0) in
+    let long = neither (ltb source (t .w * t .h)) (ltb target (t .w * t .h)) (room .1) in
+    let range = in-range (lineCount (t .w) (t .h) (b .row)) (b .start) (b .lines) (s5 .0) in
+    let known : Taken t b source target =
     record {
       wide = sides .0;
       high = sides .1;
       kernel = has-kernel t (b .row) (not-false _ (s2 .0));
-      ends = in-range (lineCount (t .w) (t .h) (b .row)) (b .start) (b .lines) (s5 .0) .end;
+      counted = range .counted;
+      ends = range .end;
       source-long = ltb-false source (t .w * t .h) (long .0);
       target-long = ltb-false target (t .w * t .h) (long .1);
-    }
+    } in
+    (known, room .0, the-answer _ n (s6 .1))
 
 module _ (t : Ticket) (b : Batch) (source target : List ℤ) where
   pub refused-is : {o : Outcome} {r : Refusal} → told o ≡ batchAnswer t b (length source) (length target) → o ≡ Refused r

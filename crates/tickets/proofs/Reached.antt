@@ -12,13 +12,14 @@ use Rattle.laws.proofs.Bool.{both, either, neither}
 use Rattle.laws.proofs.Every.{every-all, every-each}
 use Rattle.answer.specs.Answer.{Answer, answers, refuses, lowest}
 use Rattle.tickets.specs.Mark.{within}
-use Rattle.tickets.specs.Batch.{Batch, lineCount, outOfRange}
+use Rattle.tickets.specs.Batch.{Batch, isCount, lineCount, outOfRange}
 use Rattle.tickets.specs.Condition3.{covers, answerTo, accepted, coveredWith}
 use Rattle.tickets.proofs.Mark.{within-lt}
 
 -- ---- a batch within its range, and an accepted one
 
 pub record InRange (count start lines : ℕ) : Type 0 where
+  pub counted : isCount lines ≡ true
   pub end : start + lines ≤ count
   pub few : lines ≤ 8
 
@@ -28,12 +29,14 @@ in-range count start lines e =
     let more = eqb lines 4 || eqb lines 8 in
     let off = more && not (eqb (start % 4) 0) in
     let past = ltb count (start + lines) in
-    let a = neither (not (eqb lines 1 || more)) (off || past) e in
+    let a = neither (not (isCount lines)) (off || past) e in
+    let counted : isCount lines ≡ true = not-false (isCount lines) (a .0) in
     record {
+      counted = counted;
       end = ltb-false count (start + lines) (neither off past (a .1) .1);
       few = ⊎-elim (λ u. omega (arith, eqb-true lines 1 u))
           (λ r. ⊎-elim (λ u. omega (arith, eqb-true lines 4 u)) (λ u. omega (arith, eqb-true lines 8 u)) (either (eqb lines 4) (eqb lines 8) r))
-          (either (eqb lines 1) more (not-false (eqb lines 1 || more) (a .0)));
+          (either (eqb lines 1) more counted);
     }
 
 pub record Refuses (a : Answer) : Type 0 where

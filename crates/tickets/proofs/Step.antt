@@ -14,12 +14,12 @@ use lib.ListN.{length}
 use Rattle.laws.specs.Table.{every}
 use Rattle.laws.proofs.Bool.{decided}
 use Rattle.laws.proofs.Every.{every-all, every-each, every-same}
-use Rattle.answer.specs.Answer.{Answer, answers, lowest, after}
+use Rattle.answer.specs.Answer.{Answer, answers, refuses, lowest, after}
 use Rattle.sizes.proofs.Side.{side-bounds}
 use Rattle.block.specs.Lines.{columnLines, rowLines}
 use Rattle.block.proofs.Exact.{column-lines-exact, row-lines-exact}
 use Rattle.tickets.specs.Mark.{marked, maskOf, anyFrom, allMarked, within, withLines}
-use Rattle.tickets.specs.Batch.{Batch, lineCount, outOfRange, outOfOrder, answerUnless, batchAnswer, withBatch, linesOf, ticketAfter, Given, batch}
+use Rattle.tickets.specs.Batch.{Batch, lineCount, outOfRange, outOfOrder, answerUnless, withBatch, linesOf, ticketAfter, Given, batch}
 use Rattle.tickets.specs.Run.{State, Step, columnStep, rowStep, step}
 use Rattle.tickets.specs.Condition3.{covers, answerTo, accepted, coveredWith, ticketOf, held, numberAt, stateOf}
 use Rattle.tickets.specs.declared.Ticket.{Ticket}
@@ -133,17 +133,27 @@ module _ (w h ck rk : ℕ) (residuals scratch output : List ℤ) (o : Opened w h
   no-rows : every w (done false) ≡ false → (j : ℕ) → done true j ≡ false
   no-rows e j = ⊎-elim (λ a. absurd (false≢true (sym e ∙ reached .ready j a))) (λ a. a) (decided (done true j))
 
-  pub order-is : outOfOrder t (b .row) ≡ (b .row && not (every w (done false)))
+  order-is : outOfOrder t (b .row) ≡ (b .row && not (every w (done false)))
   unfolding outOfOrder ticketOf
   order-is =
       rw (any-none w (done false) w-few (outside false), any-none h (done true) h-few (outside true), all-is w (done false) w-few)
       (order-test (every w (done false)) (anyFrom 0 (maskOf 32 (done true))) (b .row)
       (λ e. any-none 0 (done true) (omega arith) (λ j l. no-rows e j)))
 
-  answer-is : (source target : ℕ) → w * h ≤ source → w * h ≤ target → batchAnswer t b source target ≡ answer
+  -- number 3 where a further buffer is short, else the batch's own answer
+  pub answer-is : (short : Bool) (source target : ℕ) → w * h ≤ source → w * h ≤ target
+      → answerUnless short t b source target ≡ cond short (refuses 3) answer
   unfolding answerUnless answerTo lowest ticketOf
-  answer-is source target a c =
-      rw (order-is, o .block .wide, o .block .high, o .kinds, le-ltb source (w * h) a, le-ltb target (w * h) c)
+  answer-is short source target a c =
+      rw (
+        order-is,
+        o .block .wide,
+        o .block .high,
+        o .kinds,
+        le-ltb source (w * h) a,
+        le-ltb target (w * h) c,
+        or-false short,
+      )
 
   -- refused, a batch does no line
   stays : Refuses answer → (row : Bool) (j : ℕ) → done row j ≡ then row j
@@ -175,7 +185,7 @@ module _ (w h ck rk : ℕ) (residuals scratch output : List ℤ) (o : Opened w h
       → batch t b source target ≡ record { answer = answer; ticket = ticketOf w h ck rk then; buffer = new }
   unfolding batch
   batch-is source target new ls lt written kept =
-      let is = answer-is (length source) (length target) ls lt in
+      let is = answer-is false (length source) (length target) ls lt in
       let way = cases w h (done false) b in
       given-same is
       (ap (λ (a : Answer). ticketAfter a (withBatch t b) t) is

@@ -8,6 +8,7 @@ use borrow.Author.Needs.{needs}
 use lib.IntN.{ℤ}
 use lib.ListN.{length, take, drop}
 use Rattle.answer.specs.Answer.{told}
+use Rattle.answer.specs.declared.Outcome.the-variants.{Done}
 use Rattle.tickets.specs.Batch.{batchOf, linesOf}
 use Rattle.previews.specs.Preview.{shows, previewOf}
 use Rattle.previews.proofs.Preview.{Shown, accepted, begins, front-asked, not-shown, is-shown}
@@ -17,12 +18,11 @@ use Rattle.previews.proofs.preview_lines.Tie as tie
 -- past the test the preview is accepted; row: its kind
 is-accepted : (c : tie.After-enum-told) {row : Bool} →
     let a = c .before .before .before .args in
-    a .row ≡ row
-    → Shown (a .ticket) (batchOf row (a .start) (a .lines)) (length (a .source .now)) (length (a .target .now)) (length (a .preview .now)) (c .enum-told .given .0 .0)
+    a .row ≡ row → Shown (a .ticket) (batchOf row (a .start) (a .lines)) (length (a .source .now)) (length (a .target .now)) (length (a .preview .now))
 is-accepted c e =
     let a = c .before .before .before .args in
     subst
-    (λ (row : Bool). Shown (a .ticket) (batchOf row (a .start) (a .lines)) (length (a .source .now)) (length (a .target .now)) (length (a .preview .now)) (c .enum-told .given .0 .0))
+    (λ (row : Bool). Shown (a .ticket) (batchOf row (a .start) (a .lines)) (length (a .source .now)) (length (a .target .now)) (length (a .preview .now)))
     e
     (accepted _ _ _ _ _ _ (sym (ap told (c .enum-told .given .1)) ∙ c .before .before .preview-outcome .ensures))
 
@@ -31,12 +31,10 @@ has-shown : (c : tie.After-enum-told) {row : Bool} {d : List ℤ} →
     let a = c .before .before .before .args in
     a .row ≡ row
     → d ≡ linesOf (a .ticket) (batchOf row 0 (a .lines)) (take (length (a .source .now) - a .start) (drop (a .start) (a .source .now))) (a .preview .now)
-    → shows (c .before .before .preview-outcome .result) d
-    ≡ previewOf (a .ticket) (batchOf (a .row) (a .start) (a .lines)) (a .source .now) (a .target .now) (a .preview .now)
+    → shows (Done (a .lines)) d ≡ previewOf (a .ticket) (batchOf (a .row) (a .start) (a .lines)) (a .source .now) (a .target .now) (a .preview .now)
 has-shown c e w =
     let a = c .before .before .before .args in
-    is-shown (a .ticket) (a .row) (a .start) (a .lines) (a .source .now) (a .target .now) (a .preview .now)
-    (c .before .before .preview-outcome .ensures) (c .enum-told .given .1)
+    is-shown (a .ticket) (a .row) (a .start) (a .lines) (a .source .now) (a .target .now) (a .preview .now) (is-accepted c refl)
     (w
     ∙ ap
     (λ (r : Bool). linesOf (a .ticket) (batchOf r 0 (a .lines)) (take (length (a .source .now) - a .start) (drop (a .start) (a .source .now))) (a .preview .now))

@@ -16,7 +16,7 @@ use Rattle.tickets.proofs.row_batch.Tie as tie
 -- past the test the batch is accepted
 is-taken : (c : tie.After-enum-told) →
     let a = c .before .before .before .args in Taken (a .ticket) (batchOf true (a .start) (a .lines)) (length (a .scratch .now)) (length (a .output .now))
-is-taken c = taken _ _ _ _ _ _ (sym (ap told (c .enum-told .given .1)) ∙ c .before .before .batch-outcome .ensures)
+is-taken c = taken _ _ _ _ _ _ (sym (ap told (c .enum-told .given .1)) ∙ c .before .before .batch-outcome .ensures) .0
 
 batch-outcome-requires : tie.Need-batch-outcome-requires
 batch-outcome-requires c κs = search needs
