@@ -3,8 +3,9 @@
  * `rt staticlib mizdrek` writes.
  *
  * Answers. A call returns a signed number: 0 or more is its answer; below 0 it is minus the number of a refusal (see
- * mizdrek_refusal). Where several refusals apply, the lowest number is returned. A refused call changes no buffer, no
- * ticket and no other number that it was lent.
+ * mizdrek_refusal). Where several refusals apply, the lowest number is returned; the calls on a plane have an order of
+ * their own, which their comments give. A refused call changes no buffer, no ticket, no plane and no other number that
+ * it was lent.
  *
  * Buffers. A buffer is two arguments: a pointer, then how many elements it holds, its `_len`. A call reads or writes only
  * the first part of a buffer, as its comment says, and refuses with MIZDREK_SHORT_BUFFER where the buffer is shorter.
@@ -13,7 +14,8 @@
  *
  * Kinds. 0 is the DCT, 1 the ADST. The ADST has sides 4, 8 and 16, and in a block both sides must then be the same.
  *
- * Threads. No call keeps anything, so any number of them may run at once on different buffers.
+ * Threads. No call keeps anything, so any number of them may run at once on different buffers. The calls on one plane must
+ * not run at the same time.
  */
 #ifndef MIZDREK_H
 #define MIZDREK_H
@@ -27,12 +29,13 @@ extern "C" {
 
 /* Why a call is refused: it returns minus this number. */
 enum mizdrek_refusal {
-    /* A side, a quantizer's width or a pass's line count isn't 4, 8, 16 or 32, or a pass's shift isn't 1 to 15. */
+    /* A side, a quantizer's width or a pass's line count isn't 4, 8, 16 or 32, or a pass's shift isn't 1 to 15; or a plane
+     * is made with a side outside 4 to 256. */
     MIZDREK_BAD_SIZE = 1,
     /* A kind isn't 0 or 1, or the ADST is asked in a block that isn't square, or at side 32. */
     MIZDREK_BAD_KIND = 2,
     /* A buffer is shorter than the part that the call reads or writes. A preview buffer is only tested for 1, 4 or 8
-     * lines. */
+     * lines. An output that is lent with a plane must hold the whole plane. */
     MIZDREK_SHORT_BUFFER = 3,
     /* One of a block's first w * h residuals lies outside -4095 to 4095. */
     MIZDREK_RESIDUAL_RANGE = 4,
@@ -47,7 +50,12 @@ enum mizdrek_refusal {
     /* A scan has more than 1024 entries, or an entry means a place past the end of the coefficients. */
     MIZDREK_SCAN_RANGE = 8,
     /* A coefficient that is to be quantized lies outside -1048576 to 1048576. */
-    MIZDREK_COEFFICIENT_RANGE = 9
+    MIZDREK_COEFFICIENT_RANGE = 9,
+    /* A tile lies outside its plane, isn't at multiples of 4, overlaps an open one or is a seventeenth; a room isn't 0 or
+     * 1; or a plane has a side outside 4 to 256, or an open tile that breaks one of these rules or a rule of 1, 2 or 6. */
+    MIZDREK_BAD_TILE = 13,
+    /* A tile isn't open for the room. */
+    MIZDREK_TILE_NOT_OPEN = 14
 };
 
 /* The exponent of the scale that a decoder applies to the coefficients of a block w wide and h high: 0 or 1. */
@@ -136,6 +144,69 @@ int64_t mizdrek_preview_rows(const struct mizdrek_ticket *ticket,
                              const int32_t *output, size_t output_len,
                              int32_t *preview, size_t preview_len,
                              size_t start, size_t lines);
+
+/* One of a plane's 16 tiles. It is open where `opened` isn't 0; a closed one may hold anything. */
+struct mizdrek_tile {
+    uint32_t opened;
+    uint32_t room;
+    size_t x;
+    size_t y;
+    struct mizdrek_ticket ticket;
+};
+
+/*
+ * A frame plane w wide and h high that two rooms work on. Its tiles are blocks that never overlap, each with its upper
+ * left number at column x, row y of one row-major output. Both rooms lend the same record and the same output; each tile
+ * has residuals and a scratch of its own. mizdrek_make_plane fills the record in; each later call, of either room, is lent
+ * it as the last one left it, and tests all of it. No room's batches depend on the other room's.
+ */
+struct mizdrek_plane {
+    size_t w;
+    size_t h;
+    struct mizdrek_tile tiles[16];
+};
+
+/* Makes *plane a plane with sides from 4 to 256 and no tile open, and answers 0. */
+int64_t mizdrek_make_plane(size_t w, size_t h, struct mizdrek_plane *plane);
+
+/*
+ * Tests a block as mizdrek_open does, with an output that must hold the whole plane, and opens it for room 0 or 1 as a
+ * tile at x, y, which are multiples of 4, with no line done. Answers the tile's number: the smallest from 0 to 15 that no
+ * open tile has. Writes no buffer. Refused by the first that applies of MIZDREK_BAD_SIZE, MIZDREK_BAD_KIND,
+ * MIZDREK_SHORT_BUFFER, MIZDREK_BAD_TILE and MIZDREK_RESIDUAL_RANGE.
+ */
+int64_t mizdrek_open_tile(struct mizdrek_plane *plane, uint32_t room, size_t x, size_t y,
+                          size_t w, size_t h, uint32_t column_kind, uint32_t row_kind,
+                          const int32_t *residuals, size_t residuals_len,
+                          const int32_t *scratch, size_t scratch_len,
+                          const int32_t *output, size_t output_len);
+
+/*
+ * Closes a tile of the room, finished or not, and answers its number. A finished tile keeps its place until it is closed;
+ * a closed one's place and number can be had again. Refused by MIZDREK_BAD_TILE, then MIZDREK_TILE_NOT_OPEN.
+ */
+int64_t mizdrek_close_tile(struct mizdrek_plane *plane, uint32_t room, size_t tile);
+
+/*
+ * Works out 1, 4 or 8 columns of a tile of the room, as mizdrek_column_batch does, from the tile's residuals into its
+ * scratch, marks them in the tile's ticket and answers `lines`. Refused by the first that applies of MIZDREK_BAD_TILE,
+ * MIZDREK_TILE_NOT_OPEN, MIZDREK_SHORT_BUFFER and MIZDREK_BATCH_RANGE.
+ */
+int64_t mizdrek_tile_columns(struct mizdrek_plane *plane, uint32_t room, size_t tile,
+                             const int32_t *residuals, size_t residuals_len,
+                             int32_t *scratch, size_t scratch_len,
+                             size_t start, size_t lines);
+
+/*
+ * Works out 1, 4 or 8 rows of a tile of the room, as mizdrek_row_batch does, from the tile's scratch into the plane's
+ * output, marks them in the tile's ticket and answers `lines`. Row j is the tile's numbers of output from place
+ * (y + j) * plane->w + x on; no other number of output changes. Refused by the first that applies of MIZDREK_BAD_TILE,
+ * MIZDREK_TILE_NOT_OPEN, MIZDREK_SHORT_BUFFER, MIZDREK_BATCH_RANGE and MIZDREK_BATCH_ORDER.
+ */
+int64_t mizdrek_tile_rows(struct mizdrek_plane *plane, uint32_t room, size_t tile,
+                          const int32_t *scratch, size_t scratch_len,
+                          int32_t *output, size_t output_len,
+                          size_t start, size_t lines);
 
 /* The 4x4 Walsh-Hadamard transform of 16 residuals from -4095 to 4095. Writes 16 numbers of output and answers 16. */
 int64_t mizdrek_fwht4x4(const int32_t *residuals, size_t residuals_len,

@@ -213,6 +213,118 @@ static void preview(void)
     row_previews(&work);
 }
 
+/* A plane 16 wide and 8 high for tiles 8 wide and 4 high, and the scratches of two tiles, one after the other. */
+struct frame {
+    struct mizdrek_plane plane, before;
+    int32_t residuals[32], scratch[64], output[129];
+};
+
+static int64_t open_tile(struct frame *frame, uint32_t room, size_t x, size_t y, size_t output_len)
+{
+    frame->before = frame->plane;
+    return mizdrek_open_tile(&frame->plane, room, x, y, 8, 4, 0, 0, frame->residuals, 32, frame->scratch, 32,
+                             frame->output, output_len);
+}
+
+static int64_t close_tile(struct frame *frame, uint32_t room, size_t tile)
+{
+    frame->before = frame->plane;
+    return mizdrek_close_tile(&frame->plane, room, tile);
+}
+
+static int64_t tile_columns(struct frame *frame, uint32_t room, size_t tile, size_t lines)
+{
+    frame->before = frame->plane;
+    return mizdrek_tile_columns(&frame->plane, room, tile, frame->residuals, 32, frame->scratch + tile % 2 * 32, 32, 0, lines);
+}
+
+static int64_t tile_rows(struct frame *frame, uint32_t room, size_t tile, size_t output_len)
+{
+    frame->before = frame->plane;
+    return mizdrek_tile_rows(&frame->plane, room, tile, frame->scratch + tile % 2 * 32, 32, frame->output, output_len, 0, 4);
+}
+
+/* A call that gave back `answer` was refused for this reason, and has left the record as it was. */
+static void expect_same_plane(const char *what, const struct frame *frame, int64_t answer, enum mizdrek_refusal reason)
+{
+    expect(what, answer, -(int64_t)reason);
+    expect(what, memcmp(&frame->before, &frame->plane, sizeof frame->plane), 0);
+}
+
+static void make_plane(struct frame *frame)
+{
+    static const struct mizdrek_tile closed;
+    memset(&frame->plane, 0xff, sizeof frame->plane);
+    frame->before = frame->plane;
+    expect_same_plane("a plane of 257x8", frame, mizdrek_make_plane(257, 8, &frame->plane), MIZDREK_BAD_SIZE);
+    expect_same_plane("a plane of 16x3", frame, mizdrek_make_plane(16, 3, &frame->plane), MIZDREK_BAD_SIZE);
+    expect("make_plane", mizdrek_make_plane(16, 8, &frame->plane), 0);
+    expect("the plane's w", (int64_t)frame->plane.w, 16);
+    expect("the plane's h", (int64_t)frame->plane.h, 8);
+    for (size_t i = 0; i < 16; i++) {
+        expect("a new plane's tile", memcmp(&frame->plane.tiles[i], &closed, sizeof closed), 0);
+    }
+}
+
+static void open_tiles(struct frame *frame)
+{
+    const struct mizdrek_tile *tile = &frame->plane.tiles[1];
+    expect("a tile of room 0", open_tile(frame, 0, 0, 0, 128), 0);
+    expect("a tile of room 1", open_tile(frame, 1, 8, 4, 129), 1);
+    expect("it is open", tile->opened, 1);
+    expect("its room", tile->room, 1);
+    expect("its x and y", (int64_t)(tile->x * 100 + tile->y), 804);
+    expect("its sides", (int64_t)(tile->ticket.w * 100 + tile->ticket.h), 804);
+    expect("its marks", tile->ticket.columns | tile->ticket.rows, 0);
+    expect_same_plane("an overlapping tile", frame, open_tile(frame, 1, 4, 0, 128), MIZDREK_BAD_TILE);
+    expect_same_plane("a misplaced tile", frame, open_tile(frame, 1, 8, 2, 128), MIZDREK_BAD_TILE);
+    expect_same_plane("a tile outside", frame, open_tile(frame, 1, 12, 0, 128), MIZDREK_BAD_TILE);
+    expect_same_plane("a tile of room 2", frame, open_tile(frame, 2, 8, 0, 128), MIZDREK_BAD_TILE);
+    expect_same_plane("a plane's short output", frame, open_tile(frame, 2, 8, 0, 127), MIZDREK_SHORT_BUFFER);
+}
+
+static void refused_tiles(struct frame *frame)
+{
+    expect_same_plane("a tile's rows first", frame, tile_rows(frame, 0, 0, 128), MIZDREK_BATCH_ORDER);
+    expect_same_plane("two columns of a tile", frame, tile_columns(frame, 0, 0, 2), MIZDREK_BATCH_RANGE);
+    expect_same_plane("rows in a short output", frame, tile_rows(frame, 0, 0, 127), MIZDREK_SHORT_BUFFER);
+    expect_same_plane("the other room's columns", frame, tile_columns(frame, 0, 1, 8), MIZDREK_TILE_NOT_OPEN);
+    expect_same_plane("rows of tile 16", frame, tile_rows(frame, 1, 16, 0), MIZDREK_TILE_NOT_OPEN);
+    expect_same_plane("closing the other room's", frame, close_tile(frame, 0, 1), MIZDREK_TILE_NOT_OPEN);
+    frame->plane.tiles[0].x = SIZE_MAX - 3;
+    expect_same_plane("columns on a broken record", frame, tile_columns(frame, 1, 1, 8), MIZDREK_BAD_TILE);
+    expect_same_plane("closing on a broken record", frame, close_tile(frame, 1, 1), MIZDREK_BAD_TILE);
+    frame->plane.tiles[0].x = 0;
+    expect_all("scratch of refused calls", frame->scratch, 64, 7);
+    expect_all("output of refused calls", frame->output, 129, 7);
+}
+
+static void plane(void)
+{
+    struct frame frame;
+    fill(frame.residuals, 32, 1);
+    fill(frame.scratch, 64, 7);
+    fill(frame.output, 129, 7);
+    make_plane(&frame);
+    open_tiles(&frame);
+    refused_tiles(&frame);
+
+    expect("a tile's columns", tile_columns(&frame, 1, 1, 8), 8);
+    expect("their marks", frame.plane.tiles[1].ticket.columns, 0xff);
+    expect_all("the other tile's scratch", frame.scratch, 32, 7);
+    expect("a tile's rows", tile_rows(&frame, 1, 1, 129), 4);
+    expect("their marks", frame.plane.tiles[1].ticket.rows, 0xf);
+    for (size_t i = 0; i < 129; i++) {
+        int inside = i / 16 >= 4 && i / 16 < 8 && i % 16 >= 8;
+        expect("a place of the plane", frame.output[i], i == 72 ? 45 : inside ? 0 : 7);
+    }
+
+    expect_same_plane("a finished tile's place", &frame, open_tile(&frame, 0, 8, 4, 128), MIZDREK_BAD_TILE);
+    expect("closing", close_tile(&frame, 1, 1), 1);
+    expect_same_plane("closing again", &frame, close_tile(&frame, 1, 1), MIZDREK_TILE_NOT_OPEN);
+    expect("a closed place", open_tile(&frame, 0, 8, 4, 128), 1);
+}
+
 static void wht(void)
 {
     int32_t residuals[16], output[16];
@@ -259,6 +371,7 @@ int main(void)
     block();
     ticket();
     preview();
+    plane();
     wht();
     levels();
     if (!wrong) {

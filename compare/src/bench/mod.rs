@@ -1,8 +1,10 @@
-//! Times both sides on the same inputs in one run and prints the ratios: ours/Rust, and preview/batch.
+//! Times both sides on the same inputs in one run and prints the ratios: ours/Rust, and preview/batch; of a
+//! plane's calls, what they take more than those on a bare ticket.
 
 mod batches;
 mod blocks;
 mod passes;
+mod planes;
 mod previews;
 mod quant;
 mod refused;
@@ -12,23 +14,25 @@ mod wht;
 /// A group of rows of the table.
 pub struct Group {
     pub name: &'static str,
-    /// What its two columns of times are of.
-    sides: [&'static str; 2],
+    /// What its two columns of times are of, and the last column.
+    columns: [&'static str; 3],
     rows: fn(),
 }
 
-const RUST: [&str; 2] = ["Rust", "ours"];
-const BATCH: [&str; 2] = ["batch", "preview"];
+const RUST: [&str; 3] = ["Rust", "ours", "ratio"];
+const BATCH: [&str; 3] = ["batch", "preview", "ratio"];
+const BARE: [&str; 3] = ["bare", "tile", "more"];
 
 /// The groups that have something to time.
 pub const GROUPS: &[Group] = &[
-    Group { name: "passes", sides: RUST, rows: passes::rows },
-    Group { name: "blocks", sides: RUST, rows: blocks::rows },
-    Group { name: "tickets", sides: RUST, rows: batches::rows },
-    Group { name: "wht", sides: RUST, rows: wht::rows },
-    Group { name: "quant", sides: RUST, rows: quant::rows },
-    Group { name: "refused", sides: RUST, rows: refused::rows },
-    Group { name: "previews", sides: BATCH, rows: previews::rows },
+    Group { name: "passes", columns: RUST, rows: passes::rows },
+    Group { name: "blocks", columns: RUST, rows: blocks::rows },
+    Group { name: "tickets", columns: RUST, rows: batches::rows },
+    Group { name: "wht", columns: RUST, rows: wht::rows },
+    Group { name: "quant", columns: RUST, rows: quant::rows },
+    Group { name: "refused", columns: RUST, rows: refused::rows },
+    Group { name: "previews", columns: BATCH, rows: previews::rows },
+    Group { name: "planes", columns: BARE, rows: planes::rows },
 ];
 
 /// Times the named groups, or all.
@@ -36,9 +40,9 @@ pub fn bench(names: &[String]) {
     let mut shown = None;
     for group in GROUPS {
         if names.is_empty() || names.iter().any(|name| name == group.name) {
-            if shown.replace(group.sides) != Some(group.sides) {
-                let [base, ours] = group.sides;
-                println!("{:34} {base:>10} {ours:>10} {:>6}", "nanoseconds a call", "ratio");
+            if shown.replace(group.columns) != Some(group.columns) {
+                let [base, ours, last] = group.columns;
+                println!("{:34} {base:>10} {ours:>10} {last:>6}", "nanoseconds a call");
             }
             (group.rows)();
         }

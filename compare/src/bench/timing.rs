@@ -10,30 +10,38 @@ const ROUND: Duration = Duration::from_millis(1);
 
 /// Times both and prints the row: the median time of each side, and the median of the rounds' ratios
 /// ours/base. The base is the Rust, or what else ours is held against.
-pub fn row(label: &str, mut base: impl FnMut(), mut ours: impl FnMut()) {
-    let (base_turns, our_turns) = (turns(&mut base), turns(&mut ours));
-    let rounds = (0..ROUNDS).map(|_| (time(base_turns, &mut base), time(our_turns, &mut ours)));
-    print(label, rounds.collect());
+pub fn row(label: &str, base: impl FnMut(), ours: impl FnMut()) {
+    print(label, rounds(base, ours), |base, ours| ours / base);
 }
 
-fn print(label: &str, rounds: Vec<(f64, f64)>) {
+/// The same with the median of the rounds' differences: the nanoseconds that ours takes more than the base.
+pub fn more(label: &str, base: impl FnMut(), ours: impl FnMut()) {
+    print(label, rounds(base, ours), |base, ours| ours - base);
+}
+
+fn rounds(mut base: impl FnMut(), mut ours: impl FnMut()) -> Vec<(f64, f64)> {
+    let (base_turns, our_turns) = (turns(&mut base), turns(&mut ours));
+    (0..ROUNDS).map(|_| (time(base_turns, &mut base), time(our_turns, &mut ours))).collect()
+}
+
+fn print(label: &str, rounds: Vec<(f64, f64)>, held: fn(f64, f64) -> f64) {
     let base = median(rounds.iter().map(|round| round.0));
     let ours = median(rounds.iter().map(|round| round.1));
-    let ratio = median(rounds.iter().map(|(base, ours)| ours / base));
-    println!("{label:34} {base:>10.1} {ours:>10.1} {ratio:>6.2}");
+    let held = median(rounds.iter().map(|&(base, ours)| held(base, ours)));
+    println!("{label:34} {base:>10.1} {ours:>10.1} {held:>6.2}");
 }
 
-/// The same with the time of a part of ours left out, which is timed by itself.
+/// A row of ratios with the time of a part of ours left out, which is timed by itself.
 pub fn row_without(label: &str, mut rust: impl FnMut(), mut ours: impl FnMut(), mut part: impl FnMut()) {
     let counts = (turns(&mut rust), turns(&mut ours), turns(&mut part));
     let rounds = (0..ROUNDS).map(|_| {
         let rust = time(counts.0, &mut rust);
         (rust, time(counts.1, &mut ours) - time(counts.2, &mut part))
     });
-    print(label, rounds.collect());
+    print(label, rounds.collect(), |rust, ours| ours / rust);
 }
 
-/// Times ours alone, where the Rust has nothing to compare with.
+/// Times ours alone, where there is nothing to compare with.
 pub fn alone(label: &str, mut ours: impl FnMut()) {
     let turns = turns(&mut ours);
     let ours = median((0..ROUNDS).map(|_| time(turns, &mut ours)));

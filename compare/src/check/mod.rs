@@ -9,6 +9,7 @@ mod made_up;
 mod one_place;
 mod openings;
 mod passes;
+mod planes;
 mod quant;
 mod quant_case;
 mod run;
@@ -32,6 +33,7 @@ pub const GROUPS: &[Group] = &[
     Group { name: "passes", compare: passes::compare },
     Group { name: "blocks", compare: blocks::compare },
     Group { name: "tickets", compare: tickets::compare },
+    Group { name: "planes", compare: planes::compare },
     Group { name: "wht", compare: wht::compare },
     Group { name: "quant", compare: quant::compare },
 ];

@@ -3,8 +3,8 @@
 use super::{Run, lanes};
 use crate::difference::{Input, Outcome, same};
 use crate::lent::Lent;
-use crate::oracle::{self, KERNELS, SIDES};
 use crate::mizdrek::{self as ours, Refusal};
+use crate::oracle::{self, KERNELS, SIDES};
 use crate::probe::passes::plain;
 use crate::random::Random;
 use crate::rules;

@@ -1,6 +1,7 @@
 //! What a call gives back: a number from 0 up is an answer, a number below is minus a refusal's.
 
-/// Why a call was refused. The lowest number that applies is given.
+/// Why a call was refused. The lowest number that applies is given; calls on a plane have an order of their
+/// own.
 #[derive(Clone, Copy, Debug, PartialEq, Eq)]
 pub enum Refusal {
     /// 1: a side, a width, a line count or a shift that there isn't.
@@ -21,6 +22,10 @@ pub enum Refusal {
     ScanRange,
     /// 9: a coefficient outside -1048576 to 1048576.
     CoefficientRange,
+    /// 13: a tile that has no place in the plane, a room that there isn't, or a record that breaks a rule.
+    BadTile,
+    /// 14: a tile that isn't open for the room.
+    TileNotOpen,
     /// A number that no call gives.
     Unknown(i64),
 }
@@ -37,6 +42,8 @@ impl Refusal {
             7 => Refusal::BadSetting,
             8 => Refusal::ScanRange,
             9 => Refusal::CoefficientRange,
+            13 => Refusal::BadTile,
+            14 => Refusal::TileNotOpen,
             other => Refusal::Unknown(other),
         }
     }
@@ -53,6 +60,8 @@ impl Refusal {
             Refusal::BadSetting => 7,
             Refusal::ScanRange => 8,
             Refusal::CoefficientRange => 9,
+            Refusal::BadTile => 13,
+            Refusal::TileNotOpen => 14,
             Refusal::Unknown(other) => other,
         }
     }

@@ -38,7 +38,9 @@ pub fn plain(
     dst: &mut [i32],
 ) -> Result<usize, Refusal> {
     // Each pointer goes with its own slice's length.
-    read(unsafe { probe_plain(side, kind, shift, lines, src.as_ptr(), src.len(), dst.as_mut_ptr(), dst.len()) })
+    read(unsafe {
+        probe_plain(side, kind, shift, lines, src.as_ptr(), src.len(), dst.as_mut_ptr(), dst.len())
+    })
 }
 
 /// The lane pass over `lines` lines from `start`, out of `line` lines.

@@ -1,6 +1,9 @@
 // Document 01's entries under "Frames on the light table" that aren't marked P, run: a line for each. Those marked P are the list of
-// specs/Examples.antt. And a list of batches, played, and a preview beside its batch.
+// specs/Examples.antt. And a list of batches, played, a preview beside its batch, and two
+// rooms on one plane.
 use answer::Outcome;
+use plane::Plane;
+use plane::Site;
 use quant::Settings;
 use text::print_text;
 
@@ -150,6 +153,59 @@ fn preview() {
     print_outcome(b"8x4, the preview into 15 numbers", refused);
 }
 
+// A room's opening of an 8×8 block of ones, x columns from the left.
+fn open_tile(entry: &[u8], given: Plane, room: u32, x: usize) -> Plane {
+    let site = Site {
+        room,
+        x,
+        y: 0,
+        w: 8,
+        h: 8,
+        column_kind: 0,
+        row_kind: 0,
+    };
+    let opened = plane::open_tile(given, site, &[1i32; 64], &[0i32; 64], &[0i32; 128]);
+    let outcome = opened.outcome;
+    print_outcome(entry, outcome);
+    opened.plane
+}
+
+// A room's 8 columns of tile 1.
+fn tile_columns(entry: &[u8], given: Plane, room: u32, scratch: &mut [i32]) -> Plane {
+    let batched = plane::tile_columns(given, room, 1, &[1i32; 64], scratch, 0, 8);
+    let outcome = batched.outcome;
+    print_outcome(entry, outcome);
+    batched.plane
+}
+
+// Two rooms on a plane of 16×8: room 0 has the left half and room 1 the right, as tile 1.
+fn planes() {
+    let mut scratch = [0i32; 64];
+    let mut output = [0i32; 128];
+    let made = plane::make_plane(16, 8);
+    let outcome = made.outcome;
+    print_outcome(b"a plane of 16x8", outcome);
+    let p0 = made.plane;
+    let p1 = open_tile(b"room 0, from column 0", p0, 0, 0);
+    let p2 = open_tile(b"room 1, from column 4", p1, 1, 4);
+    let p3 = open_tile(b"room 1, from column 8", p2, 1, 8);
+    let p4 = tile_columns(b"room 0, columns of tile 1", p3, 0, &mut scratch);
+    let p5 = tile_columns(b"room 1, columns of tile 1", p4, 1, &mut scratch);
+    let rows = plane::tile_rows(p5, 1, 1, &scratch, &mut output, 0, 8);
+    let written = rows.outcome;
+    print_outcome(b"room 1, rows of tile 1", written);
+    print_text(b"columns 7 and 8 of the plane's first row:");
+    print_number(output[7]);
+    print_number(output[8]);
+    print_text(b"\n");
+    let p6 = rows.plane;
+    let closed = plane::close_tile(p6, 1, 1);
+    let number = closed.outcome;
+    print_outcome(b"room 1, closing tile 1", number);
+    let p7 = closed.plane;
+    tile_columns(b"room 1, columns of tile 1 again", p7, 1, &mut scratch);
+}
+
 fn main() {
     blocks();
     // "Step 0: number 7. Step 1: accepted."
@@ -163,4 +219,5 @@ fn main() {
     column_batch(b"32 lines, a batch of 4 from 28", 32, 28, 4);
     list();
     preview();
+    planes();
 }

@@ -16,7 +16,7 @@ pub fn print_wanted(word: usize, wanted: &[u8]) {
     print_text(b"\n");
 }
 
-// Document 01's word for a refusal.
+// Document 01's word for a refusal; what only planes give has no word there.
 fn print_word(why: Refusal) {
     match why {
         Refusal::BadSize => print_text(b"gauge"),
@@ -28,6 +28,8 @@ fn print_word(why: Refusal) {
         Refusal::BadSetting => print_text(b"bad setting"),
         Refusal::ScanRange => print_text(b"lost place"),
         Refusal::CoefficientRange => print_text(b"too dense"),
+        Refusal::BadTile => print_text(b"bad tile"),
+        Refusal::TileNotOpen => print_text(b"tile not open"),
     }
 }
 

@@ -1,3 +1,4 @@
 pub mod Levels
 pub mod Preview
 pub mod Ticket
+pub mod Tiles

@@ -4,15 +4,15 @@ use mathlib.Core.Path.{_≡_, refl, sym, ap, _∙_}
 use mathlib.Core.Bool.{Bool, true, false, cond, _&&_}
 use mathlib.Core.List.{List}
 use Prim.Native.Nat.{ℕ, _+_, _*_, _/_, _%_, _-_, _≤_, _<_}
-use native.Mathlib.Nat.{add-mul, zero-add, zero-mul, mul-comm, mul-le-mul-left, mul-le-mul-right, div-lt-iff-lt-mul}
+use native.Mathlib.Nat.{add-mul, zero-add, zero-mul, mul-comm, mul-le-mul-left, mul-le-mul-right}
 use native.Mathlib.Omega.{arith}
 use borrow.Rule.Slice.PartAt.{part-to-end}
-use borrow.Author.Tests.{ltb-false, ltb-true, lt-ltb, ne-eqb}
+use borrow.Author.Tests.{ltb-false, ne-eqb}
 use lib.Dec.{ltb}
 use lib.IntN.{ℤ, pos}
 use lib.ListN.{length, getD, take, drop, length-drop}
 use Rattle.laws.specs.Store.{laid}
-use Rattle.laws.proofs.Bool.{same-test}
+use Rattle.laws.proofs.Divide.{ltb-div}
 use Rattle.laws.proofs.Laid.{laid-at, laid-ext}
 use Rattle.answer.specs.Answer.{Answer, answers, told}
 use Rattle.answer.specs.declared.Refusal.{Refusal}
@@ -35,9 +35,7 @@ use Rattle.previews.specs.Preview.{isShort, previewAnswer, Preview, show
 pub short-is : (k : ℕ) {lines : ℕ} (n room : ℕ) → 0 < k → isCount k ≡ true → lines ≡ k → ltb (room / k) n ≡ isShort lines n room
 unfolding isShort
 short-is k {lines} n room some count e =
-    same-test (ltb (room / k) n) (ltb room (k * n))
-    (λ a. lt-ltb room (k * n) (omega (arith, mul-comm k n, div-lt-iff-lt-mul {x = room} {y = n} some .0 (ltb-true (room / k) n a))))
-    (λ a. lt-ltb (room / k) n (div-lt-iff-lt-mul some .1 (omega (arith, mul-comm k n, ltb-true room (k * n) a))))
+    ltb-div room k n some
     ∙ sym (ap (λ (x : Bool). x && ltb room (k * n)) count)
     ∙ sym (ap (λ (m : ℕ). isCount m && ltb room (m * n)) e)
 
@@ -78,7 +76,7 @@ numberIn t b source p =
     (rescaled (t .w) (t .h) (passAt (t .«row_kind») (t .w) (secondShift (t .w) (t .h)) (t .h) source (b .start + p / t .w) (p % t .w)))
     (passAt (t .«column_kind») (t .h) (firstShift (t .w) (t .h)) (t .w) source (b .start + p / t .h) (p % t .h))
 
-lines-laid : (t : Ticket) (row : Bool) (start lines : ℕ) (source d : List ℤ) →
+pub lines-laid : (t : Ticket) (row : Bool) (start lines : ℕ) (source d : List ℤ) →
     let n = lineLength (t .w) (t .h) row in
     linesOf t (batchOf row start lines) source d ≡ laid d (start * n) (lines * n) (numberIn t (batchOf row start lines) source)
 unfolding linesOf rowLines columnLines passLines
@@ -86,7 +84,7 @@ lines-laid t true start lines source d = refl
 lines-laid t false start lines source d = refl
 
 -- they lie within the buffer
-ends-in : (t : Ticket) (row : Bool) (start lines : ℕ) → start + lines ≤ lineCount (t .w) (t .h) row →
+pub ends-in : (t : Ticket) (row : Bool) (start lines : ℕ) → start + lines ≤ lineCount (t .w) (t .h) row →
     let n = lineLength (t .w) (t .h) row in (start * n + lines * n ≤ t .w * t .h)
 ends-in t true start lines e = omega (arith, add-mul start lines (t .w), mul-comm (t .h) (t .w), mul-le-mul-right (t .w) e)
 ends-in t false start lines e = omega (arith, add-mul start lines (t .h), mul-le-mul-right (t .h) e)

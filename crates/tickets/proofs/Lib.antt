@@ -4,7 +4,9 @@ pub mod Examples
 pub mod Held
 pub mod Mark
 pub mod Opened
+pub mod Order
 pub mod Played
 pub mod Reached
 pub mod Reading
+pub mod Runs
 pub mod Step

@@ -64,7 +64,7 @@ pub fn open(
 }
 
 // A ticket with no marks.
-fn new_ticket(w: usize, h: usize, column_kind: u32, row_kind: u32) -> Ticket
+pub fn new_ticket(w: usize, h: usize, column_kind: u32, row_kind: u32) -> Ticket
     ensures { λ r. ⌜ r ≡ newTicket w h «column_kind» «row_kind» ⌝ }
 {
     Ticket {
@@ -103,7 +103,7 @@ fn all_marked(mask: u32, n: usize) -> bool
 }
 
 // Number 6's rule.
-fn out_of_order(t: Ticket, row: bool) -> bool
+pub fn out_of_order(t: Ticket, row: bool) -> bool
     requires { ⌜ (t .w ≤ 32) × (t .h ≤ 32) ⌝ }
     ensures { λ r. ⌜ r ≡ outOfOrder t row ⌝ }
 {
@@ -120,7 +120,7 @@ fn out_of_range(count: usize, start: usize, lines: usize) -> bool
 }
 
 // The ticket with a batch's lines marked.
-fn with_batch(t: Ticket, row: bool, start: usize, lines: usize) -> Ticket
+pub fn with_batch(t: Ticket, row: bool, start: usize, lines: usize) -> Ticket
     requires { ⌜ start + lines ≤ 32 ⌝ }
     ensures { λ r. ⌜ r ≡ withBatch t (batchOf row start lines) ⌝ }
 {

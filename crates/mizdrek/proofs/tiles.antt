@@ -1,0 +1,4 @@
+-- What the proofs of the calls on a plane use.
+mod Batch
+mod Entry
+mod Signed

@@ -1,0 +1,9 @@
+pub mod Places
+pub mod Plane
+pub mod Batch
+pub mod Bounds
+pub mod Calls
+pub mod Record
+pub mod Condition3
+pub mod Isolation
+pub mod Examples
