@@ -3,9 +3,9 @@
  * `rt staticlib mizdrek` writes.
  *
  * Answers. A call returns a signed number: 0 or more is its answer; below 0 it is minus the number of a refusal (see
- * mizdrek_refusal). Where several refusals apply, the lowest number is returned; the calls on a plane have an order of
- * their own, which their comments give. A refused call changes no buffer, no ticket, no plane and no other number that
- * it was lent.
+ * mizdrek_refusal). Where several refusals apply, the lowest number is returned; the calls on a plane and the reader of
+ * records have orders of their own, which their comments give. A refused call changes no buffer, no ticket, no plane and
+ * no other number that it was lent.
  *
  * Buffers. A buffer is two arguments: a pointer, then how many elements it holds, its `_len`. A call reads or writes only
  * the first part of a buffer, as its comment says, and refuses with MIZDREK_SHORT_BUFFER where the buffer is shorter.
@@ -51,6 +51,13 @@ enum mizdrek_refusal {
     MIZDREK_SCAN_RANGE = 8,
     /* A coefficient that is to be quantized lies outside -1048576 to 1048576. */
     MIZDREK_COEFFICIENT_RANGE = 9,
+    /* The bytes end inside a record. */
+    MIZDREK_CUT_RECORD = 10,
+    /* A record's side byte has one of its upper four bits set, or a level is beyond 2^30 from zero; or a level that a
+     * record holds is zero. */
+    MIZDREK_BAD_RECORD = 11,
+    /* A block number isn't above the one before. */
+    MIZDREK_RECORD_ORDER = 12,
     /* A tile lies outside its plane, isn't at multiples of 4, overlaps an open one or is a seventeenth; a room isn't 0 or
      * 1; or a plane has a side outside 4 to 256, or an open tile that breaks one of these rules or a rule of 1, 2 or 6. */
     MIZDREK_BAD_TILE = 13,
@@ -229,6 +236,41 @@ int64_t mizdrek_quantize_to_levels(size_t width, uint32_t step, float factor, fl
                                    const uint16_t *scan, size_t scan_len,
                                    float *levels, size_t levels_len,
                                    float *magnitudes, size_t magnitudes_len);
+
+/*
+ * Reads block records, one after the other up to the end of bytes, and answers how many blocks they are. A record is
+ *
+ *     4 bytes             the block's number, 0 to 2^32 - 1, low byte first
+ *     1 byte              log2(w) - 2 in the two low bits, log2(h) - 2 in the next two; the upper four are zero
+ *     w * h / 8 bytes     a bit for each place of the block, low bit first
+ *     4 bytes each        the levels of the places whose bit is set, as signed numbers, low byte first
+ *
+ * Such a level isn't zero and is at most 2^30 from it; block numbers rise strictly. No bytes are no blocks. Block 7, 4x4,
+ * with 3 at place 0 and -1 at place 5, is 07 00 00 00 00 21 00 03 00 00 00 FF FF FF FF.
+ *
+ * Writes a number for each block, two sides, w before h, and w * h levels by place, zero where the bit is clear, block
+ * after block without gaps. Nothing is written before all is tested. The first damaged record decides, by the first that
+ * applies to it of MIZDREK_CUT_RECORD, MIZDREK_BAD_RECORD and MIZDREK_RECORD_ORDER; its length goes by the lower four bits
+ * of its side byte, whatever the upper four are. Where none is damaged, MIZDREK_SHORT_BUFFER is given if one of the three
+ * buffers is shorter than its part.
+ */
+int64_t mizdrek_read_records(const uint8_t *bytes, size_t bytes_len,
+                             uint32_t *numbers, size_t numbers_len,
+                             size_t *sides, size_t sides_len,
+                             int32_t *levels, size_t levels_len);
+
+/*
+ * Writes `count` blocks, which are lent as mizdrek_read_records leaves them, as records, and answers how many bytes they
+ * are. Reads `count` numbers, 2 * count sides and the w * h levels of each block; a zero level is a clear bit. These are
+ * the only bytes that are read as these blocks. Nothing is written before all is tested. MIZDREK_BAD_SIZE goes by the
+ * sides that are lent, even where they are fewer than 2 * count; then come MIZDREK_SHORT_BUFFER, MIZDREK_BAD_RECORD and
+ * MIZDREK_RECORD_ORDER.
+ */
+int64_t mizdrek_write_records(size_t count,
+                              const uint32_t *numbers, size_t numbers_len,
+                              const size_t *sides, size_t sides_len,
+                              const int32_t *levels, size_t levels_len,
+                              uint8_t *bytes, size_t bytes_len);
 
 #ifdef __cplusplus
 }

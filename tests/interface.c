@@ -1,4 +1,4 @@
-/* Calls every function of include/mizdrek.h on document 01's small examples. Says what is wrong, or "ok". */
+/* Calls every function of include/mizdrek.h on the documents' small examples. Says what is wrong, or "ok". */
 #include "mizdrek.h"
 
 #include <math.h>
@@ -364,6 +364,137 @@ static void levels(void)
            -MIZDREK_SCAN_RANGE);
 }
 
+/* Document 02's example, block 7, 4x4, with 3 at place 0 and -1 at place 5; behind it block 8, 8 wide and 4 high, without
+ * a level. */
+static const uint8_t two_records[24] = {7, 0, 0, 0, 0, 0x21, 0, 3, 0, 0, 0, 0xff, 0xff, 0xff, 0xff,
+                                        8, 0, 0, 0, 1, 0, 0, 0, 0};
+
+/* Bytes and the buffers of a list, each longer than the two blocks need. */
+struct buffers {
+    uint8_t bytes[32];
+    uint32_t numbers[4];
+    size_t sides[6];
+    int32_t levels[50];
+};
+
+struct disk {
+    struct buffers now, before;
+};
+
+static int64_t read_records(struct disk *disk, size_t bytes_len, size_t numbers_len, size_t sides_len, size_t levels_len)
+{
+    struct buffers *now = &disk->now;
+    disk->before = *now;
+    return mizdrek_read_records(now->bytes, bytes_len, now->numbers, numbers_len, now->sides, sides_len,
+                                now->levels, levels_len);
+}
+
+static int64_t write_records(struct disk *disk, size_t count, size_t numbers_len, size_t sides_len, size_t levels_len,
+                             size_t bytes_len)
+{
+    struct buffers *now = &disk->now;
+    disk->before = *now;
+    return mizdrek_write_records(count, now->numbers, numbers_len, now->sides, sides_len, now->levels, levels_len,
+                                 now->bytes, bytes_len);
+}
+
+/* A call that gave back `answer` has changed nothing. */
+static void expect_idle(const char *what, const struct disk *disk, int64_t answer, int64_t wanted)
+{
+    expect(what, answer, wanted);
+    expect(what, memcmp(&disk->before, &disk->now, sizeof disk->now), 0);
+}
+
+/* The first `count` of the two blocks are in the list, and behind them the numbers that were there before. */
+static void expect_list(const char *what, const struct disk *disk, size_t count)
+{
+    const struct buffers *now = &disk->now, *before = &disk->before;
+    for (size_t i = 0; i < 4; i++) {
+        expect(what, now->numbers[i], i < count ? 7 + (int64_t)i : before->numbers[i]);
+    }
+    for (size_t i = 0; i < 6; i++) {
+        expect(what, (int64_t)now->sides[i], i >= 2 * count ? (int64_t)before->sides[i] : i == 2 ? 8 : 4);
+    }
+    for (size_t i = 0; i < 50; i++) {
+        int inside = i < (count == 2 ? 48 : 16);
+        expect(what, now->levels[i], !inside ? before->levels[i] : i == 0 ? 3 : i == 5 ? -1 : 0);
+    }
+}
+
+/* The first `count` bytes are the two records', and behind them are the bytes that were there before. */
+static void expect_bytes(const char *what, const struct disk *disk, size_t count)
+{
+    expect(what, memcmp(disk->now.bytes, two_records, count), 0);
+    expect(what, memcmp(disk->now.bytes + count, disk->before.bytes + count, 32 - count), 0);
+}
+
+static void refused_reading(struct disk *disk)
+{
+    uint8_t *bytes = disk->now.bytes;
+    expect_idle("too few numbers", disk, read_records(disk, 24, 1, 4, 48), -MIZDREK_SHORT_BUFFER);
+    expect_idle("too few sides", disk, read_records(disk, 24, 2, 3, 48), -MIZDREK_SHORT_BUFFER);
+    expect_idle("too few levels", disk, read_records(disk, 24, 2, 4, 47), -MIZDREK_SHORT_BUFFER);
+    expect_idle("an end in a level", disk, read_records(disk, 14, 0, 0, 0), -MIZDREK_CUT_RECORD);
+    expect_idle("an end in a number", disk, read_records(disk, 18, 0, 0, 0), -MIZDREK_CUT_RECORD);
+    bytes[15] = 7;
+    expect_idle("number 7 twice", disk, read_records(disk, 24, 0, 0, 0), -MIZDREK_RECORD_ORDER);
+    bytes[19] = 0x11;
+    expect_idle("an upper bit in a side byte", disk, read_records(disk, 24, 0, 0, 0), -MIZDREK_BAD_RECORD);
+    expect_idle("an end after it", disk, read_records(disk, 23, 0, 0, 0), -MIZDREK_CUT_RECORD);
+    bytes[7] = 0;
+    expect_idle("a zero level before it", disk, read_records(disk, 23, 0, 0, 0), -MIZDREK_BAD_RECORD);
+    bytes[7] = 1;
+    bytes[10] = 0x40;
+    expect_idle("a level of 2^30 + 1", disk, read_records(disk, 15, 1, 2, 16), -MIZDREK_BAD_RECORD);
+    bytes[7] = 0;
+    expect("a level of 2^30", read_records(disk, 15, 1, 2, 16), 1);
+    expect("it", disk->now.levels[0], 1073741824);
+}
+
+static void refused_writing(struct disk *disk)
+{
+    struct buffers *now = &disk->now;
+    now->numbers[1] = 7;
+    expect_idle("number 7 twice in a list", disk, write_records(disk, 2, 2, 4, 48, 24), -MIZDREK_RECORD_ORDER);
+    now->levels[5] = -1073741825;
+    expect_idle("a level of -2^30 - 1", disk, write_records(disk, 2, 2, 4, 48, 24), -MIZDREK_BAD_RECORD);
+    expect_idle("one number for two blocks", disk, write_records(disk, 2, 1, 4, 48, 24), -MIZDREK_SHORT_BUFFER);
+    expect_idle("three sides for two blocks", disk, write_records(disk, 2, 2, 3, 48, 24), -MIZDREK_SHORT_BUFFER);
+    expect_idle("47 levels for two blocks", disk, write_records(disk, 2, 2, 4, 47, 24), -MIZDREK_SHORT_BUFFER);
+    expect_idle("23 bytes for two blocks", disk, write_records(disk, 2, 2, 4, 48, 23), -MIZDREK_SHORT_BUFFER);
+    expect_idle("more blocks than there are", disk, write_records(disk, SIZE_MAX, 2, 4, 48, 24), -MIZDREK_SHORT_BUFFER);
+    now->sides[3] = 5;
+    expect_idle("a side of 5", disk, write_records(disk, SIZE_MAX, 0, 4, 0, 0), -MIZDREK_BAD_SIZE);
+    expect_idle("a side of 5 that isn't lent", disk, write_records(disk, 2, 2, 3, 48, 24), -MIZDREK_SHORT_BUFFER);
+    now->levels[5] = -1073741824;
+    expect("a level of -2^30", write_records(disk, 1, 1, 2, 16, 15), 15);
+    expect("its low byte", now->bytes[11], 0);
+    expect("its high byte", now->bytes[14], 0xc0);
+}
+
+static void records(void)
+{
+    struct disk disk;
+    memset(&disk, 9, sizeof disk);
+    memcpy(disk.now.bytes, two_records, 24);
+    expect_idle("no bytes", &disk, read_records(&disk, 0, 0, 0, 0), 0);
+    expect("the example", read_records(&disk, 15, 4, 6, 50), 1);
+    expect_list("the example's list", &disk, 1);
+    expect("two records", read_records(&disk, 24, 2, 4, 48), 2);
+    expect_list("two records' list", &disk, 2);
+
+    memset(disk.now.bytes, 9, sizeof disk.now.bytes);
+    expect_idle("no blocks", &disk, write_records(&disk, 0, 0, 0, 0, 0), 0);
+    expect("the example's block", write_records(&disk, 1, 4, 6, 50, 32), 15);
+    expect_bytes("the example's bytes", &disk, 15);
+    expect("two blocks", write_records(&disk, 2, 2, 4, 48, 24), 24);
+    expect_bytes("two blocks' bytes", &disk, 24);
+
+    refused_writing(&disk);
+    memcpy(disk.now.bytes, two_records, 24);
+    refused_reading(&disk);
+}
+
 int main(void)
 {
     tables();
@@ -374,6 +505,7 @@ int main(void)
     plane();
     wht();
     levels();
+    records();
     if (!wrong) {
         puts("ok");
     }

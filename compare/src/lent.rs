@@ -22,10 +22,34 @@ impl Number for i32 {
     }
 }
 
+impl Number for u8 {
+    type Seen = u8;
+    const GUARD: u8 = 0xb7;
+    fn seen(self) -> u8 {
+        self
+    }
+}
+
 impl Number for u16 {
     type Seen = u16;
     const GUARD: u16 = 0x5ead;
     fn seen(self) -> u16 {
+        self
+    }
+}
+
+impl Number for u32 {
+    type Seen = u32;
+    const GUARD: u32 = 0x9ad5_e11d;
+    fn seen(self) -> u32 {
+        self
+    }
+}
+
+impl Number for usize {
+    type Seen = usize;
+    const GUARD: usize = 0xfe1d_9a7e_0b5e_55ed;
+    fn seen(self) -> usize {
         self
     }
 }

@@ -35,4 +35,9 @@ impl Random {
     pub fn pick<T: Copy>(&mut self, from: &[T]) -> T {
         from[self.below(from.len())]
     }
+
+    /// One of a list that is to be changed, unless it is empty.
+    pub fn pick_mut<'a, T>(&mut self, from: &'a mut [T]) -> Option<&'a mut T> {
+        from.get_mut(self.below(from.len().max(1)))
+    }
 }

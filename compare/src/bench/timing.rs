@@ -19,16 +19,31 @@ pub fn more(label: &str, base: impl FnMut(), ours: impl FnMut()) {
     print(label, rounds(base, ours), |base, ours| ours - base);
 }
 
+/// A row of ratios with the gigabytes a second of each side, where a call goes through so many bytes.
+pub fn rates(label: &str, bytes: usize, base: impl FnMut(), ours: impl FnMut()) {
+    let rounds = rounds(base, ours);
+    let [base, ours] = medians(&rounds).map(|time| bytes as f64 / time);
+    print_with(label, rounds, |base, ours| ours / base, &format!(" {base:>10.2} {ours:>10.2}"));
+}
+
 fn rounds(mut base: impl FnMut(), mut ours: impl FnMut()) -> Vec<(f64, f64)> {
     let (base_turns, our_turns) = (turns(&mut base), turns(&mut ours));
     (0..ROUNDS).map(|_| (time(base_turns, &mut base), time(our_turns, &mut ours))).collect()
 }
 
 fn print(label: &str, rounds: Vec<(f64, f64)>, held: fn(f64, f64) -> f64) {
-    let base = median(rounds.iter().map(|round| round.0));
-    let ours = median(rounds.iter().map(|round| round.1));
+    print_with(label, rounds, held, "");
+}
+
+fn print_with(label: &str, rounds: Vec<(f64, f64)>, held: fn(f64, f64) -> f64, more: &str) {
+    let [base, ours] = medians(&rounds);
     let held = median(rounds.iter().map(|&(base, ours)| held(base, ours)));
-    println!("{label:34} {base:>10.1} {ours:>10.1} {held:>6.2}");
+    println!("{label:34} {base:>10.1} {ours:>10.1} {held:>6.2}{more}");
+}
+
+/// The median time of each side.
+fn medians(rounds: &[(f64, f64)]) -> [f64; 2] {
+    [median(rounds.iter().map(|round| round.0)), median(rounds.iter().map(|round| round.1))]
 }
 
 /// A row of ratios with the time of a part of ours left out, which is timed by itself.

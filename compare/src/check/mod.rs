@@ -12,6 +12,7 @@ mod passes;
 mod planes;
 mod quant;
 mod quant_case;
+mod records;
 mod run;
 mod scans;
 mod tables;
@@ -34,6 +35,7 @@ pub const GROUPS: &[Group] = &[
     Group { name: "blocks", compare: blocks::compare },
     Group { name: "tickets", compare: tickets::compare },
     Group { name: "planes", compare: planes::compare },
+    Group { name: "records", compare: records::compare },
     Group { name: "wht", compare: wht::compare },
     Group { name: "quant", compare: quant::compare },
 ];

@@ -1,7 +1,7 @@
 //! What a call gives back: a number from 0 up is an answer, a number below is minus a refusal's.
 
-/// Why a call was refused. The lowest number that applies is given; calls on a plane have an order of their
-/// own.
+/// Why a call was refused. The lowest number that applies is given; calls on a plane and the reader of
+/// records have orders of their own.
 #[derive(Clone, Copy, Debug, PartialEq, Eq)]
 pub enum Refusal {
     /// 1: a side, a width, a line count or a shift that there isn't.
@@ -22,6 +22,12 @@ pub enum Refusal {
     ScanRange,
     /// 9: a coefficient outside -1048576 to 1048576.
     CoefficientRange,
+    /// 10: the bytes end inside a record.
+    CutRecord,
+    /// 11: a side byte with an upper bit, or a level that is zero or beyond 2^30 from it.
+    BadRecord,
+    /// 12: a block number that isn't above the one before.
+    RecordOrder,
     /// 13: a tile that has no place in the plane, a room that there isn't, or a record that breaks a rule.
     BadTile,
     /// 14: a tile that isn't open for the room.
@@ -42,6 +48,9 @@ impl Refusal {
             7 => Refusal::BadSetting,
             8 => Refusal::ScanRange,
             9 => Refusal::CoefficientRange,
+            10 => Refusal::CutRecord,
+            11 => Refusal::BadRecord,
+            12 => Refusal::RecordOrder,
             13 => Refusal::BadTile,
             14 => Refusal::TileNotOpen,
             other => Refusal::Unknown(other),
@@ -60,6 +69,9 @@ impl Refusal {
             Refusal::BadSetting => 7,
             Refusal::ScanRange => 8,
             Refusal::CoefficientRange => 9,
+            Refusal::CutRecord => 10,
+            Refusal::BadRecord => 11,
+            Refusal::RecordOrder => 12,
             Refusal::BadTile => 13,
             Refusal::TileNotOpen => 14,
             Refusal::Unknown(other) => other,

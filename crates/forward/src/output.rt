@@ -28,6 +28,9 @@ fn print_word(why: Refusal) {
         Refusal::BadSetting => print_text(b"bad setting"),
         Refusal::ScanRange => print_text(b"lost place"),
         Refusal::CoefficientRange => print_text(b"too dense"),
+        Refusal::CutRecord => print_text(b"cut record"),
+        Refusal::BadRecord => print_text(b"bad record"),
+        Refusal::RecordOrder => print_text(b"record out of turn"),
         Refusal::BadTile => print_text(b"bad tile"),
         Refusal::TileNotOpen => print_text(b"tile not open"),
     }

@@ -1,4 +1,3 @@
 pub mod Levels
 pub mod Preview
 pub mod Ticket
-pub mod Tiles

@@ -1,0 +1,4 @@
+pub mod Pieces
+pub mod Format
+pub mod Exact
+pub mod Examples

@@ -1,0 +1,3 @@
+-- What the proofs of the calls on a plane use.
+mod Batch
+mod Entry

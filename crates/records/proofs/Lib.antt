@@ -1,0 +1,4 @@
+pub mod Back
+pub mod Both
+pub mod Examples
+pub mod Held

@@ -1,0 +1,4 @@
+pub mod Admitted
+pub mod Backwards
+pub mod Blocks
+pub mod Word

@@ -1,0 +1,26 @@
+-- `writer::bytes::word_of` meets its contract. Assumes nothing.
+use Rattle.writer.proofs.Word.{plain, turned}
+use Rattle.writer.proofs.bytes.word_of.Statement.{statement}
+use Rattle.writer.proofs.bytes.word_of.Tie as tie
+
+cast-result : tie.Need-cast-result
+cast-result c = plain (c .before .args .l) (c .before .fits .l) (c .if1 .taken) .casts
+
+returns : tie.Need-returns
+returns c = plain (c .before .args .l) (c .before .fits .l) (c .if1 .taken) .is
+
+sub-result : tie.Need-sub-result
+sub-result c = turned (c .before .args .l) (c .before .fits .l) (c .if1 .left) .room
+
+cast-result-2 : tie.Need-cast-result-2
+cast-result-2 c = turned (c .before .args .l) (c .before .fits .l) (c .if1 .left) .casts
+
+sub-result-2 : tie.Need-sub-result-2
+sub-result-2 c = turned (c .before .args .l) (c .before .fits .l) (c .if1 .left) .most
+
+returns-2 : tie.Need-returns-2
+returns-2 c = turned (c .before .args .l) (c .before .fits .l) (c .if1 .left) .is
+
+pub word-of-spec : {M : Type 1} → statement M
+word-of-spec =
+    tie.close (tie.spec cast-result returns sub-result cast-result-2 sub-result-2 returns-2)
