@@ -3,9 +3,9 @@
  * `rt staticlib mizdrek` writes.
  *
  * Answers. A call returns a signed number: 0 or more is its answer; below 0 it is minus the number of a refusal (see
- * mizdrek_refusal). Where several refusals apply, the lowest number is returned; the calls on a plane and the reader of
- * records have orders of their own, which their comments give. A refused call changes no buffer, no ticket, no plane and
- * no other number that it was lent.
+ * mizdrek_refusal). Where several refusals apply, the lowest number is returned; the calls on a plane and the reader and
+ * the report of records have orders of their own, which their comments give. A refused call changes no buffer, no ticket,
+ * no plane and no other number that it was lent.
  *
  * Buffers. A buffer is two arguments: a pointer, then how many elements it holds, its `_len`. A call reads or writes only
  * the first part of a buffer, as its comment says, and refuses with MIZDREK_SHORT_BUFFER where the buffer is shorter.
@@ -62,7 +62,9 @@ enum mizdrek_refusal {
      * 1; or a plane has a side outside 4 to 256, or an open tile that breaks one of these rules or a rule of 1, 2 or 6. */
     MIZDREK_BAD_TILE = 13,
     /* A tile isn't open for the room. */
-    MIZDREK_TILE_NOT_OPEN = 14
+    MIZDREK_TILE_NOT_OPEN = 14,
+    /* Records that are to be added up are 2^36 bytes or more. */
+    MIZDREK_BAD_FILE = 16
 };
 
 /* The exponent of the scale that a decoder applies to the coefficients of a block w wide and h high: 0 or 1. */
@@ -271,6 +273,15 @@ int64_t mizdrek_write_records(size_t count,
                               const size_t *sides, size_t sides_len,
                               const int32_t *levels, size_t levels_len,
                               uint8_t *bytes, size_t bytes_len);
+
+/*
+ * Adds up block records, without unpacking them. Answers how many blocks they are, as mizdrek_read_records does, and
+ * writes how many of the blocks' levels aren't zero to *levels and the sum of the levels' magnitudes to *magnitude. No
+ * bytes give three zeros. MIZDREK_BAD_FILE comes before all else: it is given for 2^36 bytes or more, whose sum might pass
+ * 64 bits. Then the first damaged record decides, as in mizdrek_read_records. MIZDREK_SHORT_BUFFER is never given.
+ */
+int64_t mizdrek_report(const uint8_t *bytes, size_t bytes_len,
+                       uint64_t *levels, uint64_t *magnitude);
 
 #ifdef __cplusplus
 }

@@ -1,9 +1,11 @@
 /* Calls every function of include/mizdrek.h on the documents' small examples. Says what is wrong, or "ok". */
+#define _DEFAULT_SOURCE /* for MAP_ANONYMOUS and MAP_NORESERVE */
 #include "mizdrek.h"
 
 #include <math.h>
 #include <stdio.h>
 #include <string.h>
+#include <sys/mman.h>
 
 static int wrong = 0;
 
@@ -495,6 +497,56 @@ static void records(void)
     refused_reading(&disk);
 }
 
+/* A report with 70 and 700 in the two numbers before. */
+static void expect_report(const char *what, const uint8_t *bytes, size_t bytes_len, int64_t answer, uint64_t levels,
+                          uint64_t magnitude)
+{
+    uint64_t l = 70, m = 700;
+    expect(what, mizdrek_report(bytes, bytes_len, &l, &m), answer);
+    expect(what, (int64_t)l, (int64_t)levels);
+    expect(what, (int64_t)m, (int64_t)magnitude);
+}
+
+static void expect_no_report(const char *what, const uint8_t *bytes, size_t bytes_len, enum mizdrek_refusal reason)
+{
+    expect_report(what, bytes, bytes_len, -(int64_t)reason, 70, 700);
+}
+
+static void report(void)
+{
+    uint8_t bytes[24];
+    memcpy(bytes, two_records, 24);
+    expect_report("the report of no bytes", bytes, 0, 0, 0, 0);
+    expect_report("the example's report", bytes, 15, 1, 2, 4);
+    expect_report("two records' report", bytes, 24, 2, 2, 4);
+    expect_no_report("a report of 14 bytes", bytes, 14, MIZDREK_CUT_RECORD);
+    expect_no_report("a report of 23 bytes", bytes, 23, MIZDREK_CUT_RECORD);
+    bytes[15] = 7;
+    expect_no_report("a report with number 7 twice", bytes, 24, MIZDREK_RECORD_ORDER);
+    bytes[19] = 0x11;
+    expect_no_report("a report with an upper bit", bytes, 24, MIZDREK_BAD_RECORD);
+    memset(bytes + 7, 0, 8);
+    expect_no_report("a report with zero levels", bytes, 24, MIZDREK_BAD_RECORD);
+    bytes[10] = 0x40;
+    bytes[14] = 0xc0;
+    expect_report("the report of 2^30 and -2^30", bytes, 15, 1, 2, (uint64_t)1 << 31);
+}
+
+/* Zeros that take no memory before they are read. Their second record has number 0 like the first; 2^36 of them are too
+ * long, and that comes first. */
+static void long_report(void)
+{
+    size_t length = (size_t)1 << 36;
+    void *zeros = mmap(NULL, length, PROT_READ, MAP_PRIVATE | MAP_ANONYMOUS | MAP_NORESERVE, -1, 0);
+    if (zeros == MAP_FAILED) {
+        puts("not tried, since 2^36 bytes can't be mapped: reports about that length");
+        return;
+    }
+    expect_no_report("a report of 2^36 - 1 bytes", zeros, length - 1, MIZDREK_RECORD_ORDER);
+    expect_no_report("a report of 2^36 bytes", zeros, length, MIZDREK_BAD_FILE);
+    munmap(zeros, length);
+}
+
 int main(void)
 {
     tables();
@@ -506,6 +558,8 @@ int main(void)
     wht();
     levels();
     records();
+    report();
+    long_report();
     if (!wrong) {
         puts("ok");
     }

@@ -46,6 +46,14 @@ impl Number for u32 {
     }
 }
 
+impl Number for u64 {
+    type Seen = u64;
+    const GUARD: u64 = 0xd1b5_4a32_d192_ed03;
+    fn seen(self) -> u64 {
+        self
+    }
+}
+
 impl Number for usize {
     type Seen = usize;
     const GUARD: usize = 0xfe1d_9a7e_0b5e_55ed;

@@ -1,10 +1,13 @@
-//! The reader and the writer as plain Rust, to be timed against: written to be quick, with all tests before
-//! the first number is written.
+//! The reader, the writer and the report as plain Rust, to be timed against: written to be quick, with all
+//! tests before the first number is written.
 
-use crate::mizdrek::Refusal::{self, BadRecord, BadSize, CutRecord, RecordOrder, ShortBuffer};
+use crate::mizdrek::Refusal::{self, BadFile, BadRecord, BadSize, CutRecord, RecordOrder, ShortBuffer};
 
 /// The furthest that a level may be from zero.
 const LEVEL_LIMIT: u32 = 1 << 30;
+
+/// From so many bytes on, a sum of magnitudes may pass 64 bits.
+const TOO_LONG: usize = 1 << 36;
 
 /// A record, looked at where it stands in the bytes.
 struct Record<'a> {
@@ -30,6 +33,24 @@ impl<'a> Record<'a> {
     fn is_sound(&self) -> bool {
         let levels = self.levels.iter().map(|&level| i32::from_le_bytes(level));
         self.side < 16 && levels.fold(true, |sound, level| sound & (level != 0) & is_near(level))
+    }
+
+    /// The sum of the levels' magnitudes, in the same pass as the tests of `is_sound`. Eight sums let the
+    /// compiler work on some levels at a time.
+    fn magnitude(&self) -> Option<u64> {
+        let (mut sums, mut reach) = ([0; 8], 0);
+        let mut add = |levels: &[[u8; 4]]| {
+            for (sum, &level) in sums.iter_mut().zip(levels) {
+                let magnitude = i32::from_le_bytes(level).unsigned_abs();
+                // Has a bit from 30 on where the magnitude is 0 or above the limit, a power of two.
+                reach |= magnitude.wrapping_sub(1);
+                *sum += u64::from(magnitude);
+            }
+        };
+        let (eights, rest) = self.levels.as_chunks::<8>();
+        eights.iter().for_each(|eight| add(eight));
+        add(rest);
+        (self.side < 16 && reach < LEVEL_LIMIT).then(|| sums.iter().sum())
     }
 
     /// Writes all levels of the block: zeros, then those whose bit stands.
@@ -89,6 +110,28 @@ fn measure(bytes: &[u8]) -> Result<(usize, usize), Refusal> {
         (rest, before) = (behind, Some(record.number));
     }
     Ok((blocks, places))
+}
+
+/// How many blocks the bytes have, how many levels, and the sum of their magnitudes, unless a record is
+/// damaged.
+pub fn report(bytes: &[u8]) -> Result<(usize, u64, u64), Refusal> {
+    if bytes.len() >= TOO_LONG {
+        return Err(BadFile);
+    }
+    let (mut blocks, mut levels, mut magnitude) = (0, 0, 0);
+    let (mut rest, mut before) = (bytes, None);
+    while !rest.is_empty() {
+        let (record, behind) = Record::split(rest)?;
+        let sum = record.magnitude().ok_or(BadRecord)?;
+        if before.is_some_and(|before| record.number <= before) {
+            return Err(RecordOrder);
+        }
+        blocks += 1;
+        levels += record.levels.len() as u64;
+        magnitude += sum;
+        (rest, before) = (behind, Some(record.number));
+    }
+    Ok((blocks, levels, magnitude))
 }
 
 pub fn write(

@@ -1,4 +1,5 @@
-//! Reading and writing the records of a picture of 512 by 512, cut into squares, against plain Rust.
+//! Reading, writing and reporting the records of a picture of 512 by 512, cut into squares, against plain
+//! Rust.
 
 use super::plain_records as rust;
 use super::timing::rates;
@@ -29,6 +30,7 @@ pub fn rows() {
             let label = format!("{} of {side}x{side}, {name}", blocks.len());
             reading(&format!("read {label}"), &list, &file);
             writing(&format!("write {label}"), &list, &file);
+            reporting(&format!("report {label}"), &file);
         }
     }
 }
@@ -74,5 +76,15 @@ fn writing(label: &str, list: &List, file: &[u8]) {
             let (List { numbers, sides, levels }, bytes) = black_box((list, &mut ours));
             _ = black_box(mizdrek::write_records(numbers.len(), numbers, sides, levels, bytes));
         },
+    );
+}
+
+fn reporting(label: &str, file: &[u8]) {
+    let (mut levels, mut magnitude) = (0, 0);
+    rates(
+        label,
+        file.len(),
+        || _ = black_box(rust::report(black_box(file))),
+        || _ = black_box(mizdrek::report(black_box(file), &mut levels, &mut magnitude)),
     );
 }

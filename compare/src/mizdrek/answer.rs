@@ -1,7 +1,7 @@
 //! What a call gives back: a number from 0 up is an answer, a number below is minus a refusal's.
 
-/// Why a call was refused. The lowest number that applies is given; calls on a plane and the reader of
-/// records have orders of their own.
+/// Why a call was refused. The lowest number that applies is given; calls on a plane and the reader and the
+/// report of records have orders of their own.
 #[derive(Clone, Copy, Debug, PartialEq, Eq)]
 pub enum Refusal {
     /// 1: a side, a width, a line count or a shift that there isn't.
@@ -32,6 +32,8 @@ pub enum Refusal {
     BadTile,
     /// 14: a tile that isn't open for the room.
     TileNotOpen,
+    /// 16: records that are too long to be added up.
+    BadFile,
     /// A number that no call gives.
     Unknown(i64),
 }
@@ -53,6 +55,7 @@ impl Refusal {
             12 => Refusal::RecordOrder,
             13 => Refusal::BadTile,
             14 => Refusal::TileNotOpen,
+            16 => Refusal::BadFile,
             other => Refusal::Unknown(other),
         }
     }
@@ -74,6 +77,7 @@ impl Refusal {
             Refusal::RecordOrder => 12,
             Refusal::BadTile => 13,
             Refusal::TileNotOpen => 14,
+            Refusal::BadFile => 16,
             Refusal::Unknown(other) => other,
         }
     }

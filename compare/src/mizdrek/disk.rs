@@ -24,6 +24,7 @@ unsafe extern "C" {
         bytes: *mut u8,
         bytes_len: usize,
     ) -> i64;
+    fn mizdrek_report(bytes: *const u8, bytes_len: usize, levels: *mut u64, magnitude: *mut u64) -> i64;
 }
 
 /// Reads all records of `bytes`. Writes each block's number, its sides, w before h, and its `w * h` levels,
@@ -72,4 +73,11 @@ pub fn write_records(
             bytes.len(),
         )
     })
+}
+
+/// Adds up all records of `bytes`: writes how many levels aren't zero, and the sum of their magnitudes.
+/// Answers the number of blocks.
+pub fn report(bytes: &[u8], levels: &mut u64, magnitude: &mut u64) -> Result<usize, Refusal> {
+    // The bytes go with their length, and the two results are lent as places of their own.
+    read(unsafe { mizdrek_report(bytes.as_ptr(), bytes.len(), levels, magnitude) })
 }

@@ -15,7 +15,7 @@ mod wht;
 
 pub use answer::{Refusal, read};
 pub use block::block;
-pub use disk::{read_records, write_records};
+pub use disk::{read_records, report, write_records};
 pub use levels::{qstep, quantize_one, quantize_to_levels};
 pub use pass::pass;
 pub use plane::{Plane, Site, Tile, close_tile, make_plane, open_tile, tile_columns, tile_rows};

@@ -1,6 +1,6 @@
 //! Document 01's refusals, read from its table: what each call must answer. Each function tests in the
-//! order of the numbers, so that the lowest that applies is given; planes and the reader of records have
-//! orders of their own.
+//! order of the numbers, so that the lowest that applies is given; planes and the reader and the report of
+//! records have orders of their own.
 
 pub mod batch;
 pub mod levels;

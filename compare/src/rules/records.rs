@@ -1,5 +1,5 @@
 //! Block records, from request A.1 of document 02: what the reader and the writer answer, and what they write
-//! where they accept. The reader's number 3 comes after 10 to 12.
+//! where they accept. The reader's number 3 comes after 10 to 12. The report is request A.13's.
 
 use super::is_side;
 use crate::mizdrek::Refusal::{self, BadRecord, BadSize, CutRecord, RecordOrder, ShortBuffer};
@@ -84,6 +84,16 @@ pub fn write(
     }
     put(&file, bytes);
     Ok(file.len())
+}
+
+/// The report: the totals over the list of blocks. 2^36 bytes or more, which are refused by 16, aren't made
+/// here: tests/interface.c lends them.
+pub fn report(bytes: &[u8], levels: &mut u64, magnitude: &mut u64) -> Result<usize, Refusal> {
+    let blocks = blocks(bytes)?;
+    let all = List::of(&blocks).levels;
+    *levels = all.iter().filter(|&&level| level != 0).count() as u64;
+    *magnitude = all.iter().map(|level| u64::from(level.unsigned_abs())).sum();
+    Ok(blocks.len())
 }
 
 /// The first `count` blocks of a list, unless a buffer is too short for them.

@@ -11,7 +11,7 @@ use lib.IntN.{ℤ, natAbs}
 use lib.ListN.{length, length-append}
 use Rattle.laws.proofs.Bool.{decided}
 use Rattle.laws.proofs.Place.{split}
-use Rattle.laws.proofs.Sum.{sum-within}
+use Rattle.laws.proofs.Sum.{sum-within, sumℕ-same, sumℕ-add}
 use Rattle.laws.specs.Sum.{sumℕ}
 use Rattle.format.specs.Pieces.{Bytes, standing, stands, four, wordOf, bytesFor, listed, numberAt, ofWord, ListedLevels}
 use Rattle.format.proofs.Number.{number-read, number-made, word-small, word-read}
@@ -20,9 +20,8 @@ use Rattle.laws.proofs.Part.{Part, part-self, part-at, part-left, part-right, p
 -- ---- how many bits stand
 
 pub standing-same : (f g : ℕ → Bool) (n : ℕ) → ((p : ℕ) → p < n → f p ≡ g p) → standing f n ≡ standing g n
-unfolding standing sumℕ
-standing-same f g zero e = refl
-standing-same f g (suc n) e = ap₂ (λ (a : ℕ) (b : Bool). a + cond b 1 0) (standing-same f g n (λ p b. e p (omega arith))) (e n (omega arith))
+unfolding standing
+standing-same f g n e = sumℕ-same n (λ p. cond (f p) 1 0) (λ p. cond (g p) 1 0) (λ p h. ap (λ (b : Bool). cond b 1 0) (e p h))
 
 pub standing-le : (f : ℕ → Bool) (n : ℕ) → standing f n ≤ n
 unfolding standing sumℕ
@@ -36,14 +35,25 @@ standing-more f n = refl
 
 -- the first m bits and the n after them
 pub standing-add : (f : ℕ → Bool) (m n : ℕ) → standing f (m + n) ≡ standing f m + standing (λ i. f (m + i)) n
-unfolding standing sumℕ
-standing-add f m zero = omega (arith, ap (standing f) (add-zero m))
-standing-add f m (suc n) = omega (arith, ap (standing f) (add-suc m n), standing-more f (m + n), standing-add f m n)
+unfolding standing
+standing-add f m n = sumℕ-add (λ p. cond (f p) 1 0) m n
 
 -- what stands below a place lies within what stands
 pub standing-within : (f : ℕ → Bool) (n p : ℕ) → p < n → standing f p + cond (f p) 1 0 ≤ standing f n
 unfolding standing
 standing-within f n p h = sum-within n (λ p. cond (f p) 1 0) p h
+
+-- a sum over the places whose bits stand goes by how many stand before each
+pub sum-ranked : (f : ℕ → Bool) (g : ℕ → ℕ) (n : ℕ) → sumℕ n (λ p. cond (f p) (g (standing f p)) 0) ≡ sumℕ (standing f n) g
+unfolding sumℕ standing
+sum-ranked f g zero = refl
+sum-ranked f g (suc n) = ⊎-elim (λ e. rw e (on (sum-ranked f g n))) (λ e. rw e (off (sum-ranked f g n))) (decided (f n))
+  where
+    on : {m : ℕ} → m ≡ sumℕ (standing f n) g → m + g (standing f n) ≡ sumℕ (standing f n + 1) g
+    on i = omega (arith, i, ap (λ (k : ℕ). sumℕ k g) (let z : standing f n + 1 ≡ suc (standing f n) = omega arith in z))
+
+    off : {m : ℕ} → m ≡ sumℕ (standing f n) g → m + 0 ≡ sumℕ (standing f n + 0) g
+    off i = omega (arith, i, ap (λ (k : ℕ). sumℕ k g) (add-zero (standing f n)))
 
 -- the place of bit i of those that stand
 pub record Stands (f : ℕ → Bool) (n i : ℕ) : Type 0 where

@@ -235,11 +235,11 @@ module _ (s : List ℕ) (bytes : Bytes s) {low : ℕ} (ok : Accepted low s) wher
   near-in p h = ⊎-elim (λ e. rw e (right-at p h e .1)) (λ e. rw e) (decided (bitIn s p))
 
   -- the level of the block at a place
-  level-in : (p : ℕ) → p < placesIn s → levelOf (blockIn s) p ≡ levelIn s p
+  pub level-in : (p : ℕ) → p < placesIn s → levelOf (blockIn s) p ≡ levelIn s p
   unfolding blockIn
   level-in p h = getD-tab (placesIn s) (levelIn s) p (pos 0) h
 
-  bits-in : (p : ℕ) → p < placesIn s → stands (levelOf (blockIn s) p) ≡ bitIn s p
+  pub bits-in : (p : ℕ) → p < placesIn s → stands (levelOf (blockIn s) p) ≡ bitIn s p
   bits-in p h = ap stands (level-in p h) ∙ stands-in p h
 
   count-in : (p : ℕ) → p ≤ placesIn s → length (listed p (levelOf (blockIn s))) ≡ 4 * countIn s p

@@ -16,7 +16,7 @@ pub fn print_wanted(word: usize, wanted: &[u8]) {
     print_text(b"\n");
 }
 
-// Document 01's word for a refusal; what only planes give has no word there.
+// A word for a refusal: document 01's for 1 to 9, our own for document 02's.
 fn print_word(why: Refusal) {
     match why {
         Refusal::BadSize => print_text(b"gauge"),
@@ -33,6 +33,7 @@ fn print_word(why: Refusal) {
         Refusal::RecordOrder => print_text(b"record out of turn"),
         Refusal::BadTile => print_text(b"bad tile"),
         Refusal::TileNotOpen => print_text(b"tile not open"),
+        Refusal::BadFile => print_text(b"bad file"),
     }
 }
 

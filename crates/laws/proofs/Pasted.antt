@@ -45,6 +45,12 @@ module _ {A : Type 0} where
       ap₂ (λ (x y : List A). x ++ (m ++ y)) a b ∙ append-assoc t l (m ++ drop (at + length (l ++ m)) d)
       ∙ ap (λ (x : List A). t ++ x) (sym (append-assoc l m (drop (at + length (l ++ m)) d)))
 
+  -- three pieces, one behind the other
+  pub pasted-three : (d : List A) (at m n : ℕ) (x y z : List A) → at + length x + length y ≤ length d → m ≡ at + length x → n ≡ m + length y
+      → pasted (pasted (pasted d at x) m y) n z ≡ pasted d at (x ++ (y ++ z))
+  pasted-three d at m n x y z room em en =
+      pasted-both (pasted d at x) m n y z (omega (arith, length-pasted d at x (omega arith))) en ∙ pasted-both d at m x (y ++ z) (omega arith) em
+
   -- one more
   pub pasted-set : (d : List A) (at n : ℕ) (l : List A) (v : A) → at + length l < length d → n ≡ at + length l → set (pasted d at l) n v ≡ pasted d at (l ++ (v ∷ []))
   pasted-set d at n l v h e =

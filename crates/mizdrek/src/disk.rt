@@ -1,10 +1,14 @@
-// Block records: a reader and a writer.
+// Block records: a reader, a writer, and the report of a file.
+use answer::Outcome;
+use totals::Report;
 ghost use mathlib.Core.Path.{_≡_};
 ghost use lib.ListN.{length};
 ghost use Rattle.answer.specs.Answer.{signedOf};
 ghost use Rattle.format.specs.Format.{parse};
 ghost use Rattle.reader.specs.Reading.{readAnswer, numbersAfter, sidesAfter, levelsAfter};
+ghost use Rattle.totals.specs.Totals.{reportOf};
 ghost use Rattle.writer.specs.Writing.{writeAnswer, bytesAfter};
+ghost use Rattle.mizdrek.specs.Reported.{signedReport, levelsGiven, magnitudeGiven};
 
 #[no_mangle]
 pub extern "C" fn mizdrek_read_records(
@@ -35,4 +39,23 @@ pub extern "C" fn mizdrek_write_records(
 {
     let written = writer::write_records(count, numbers, sides, levels, bytes);
     answer::signed(written)
+}
+
+// Answers the blocks of a record file, and puts its nonzero levels and the sum of their magnitudes into the numbers lent; a refused call writes
+// neither.
+#[no_mangle]
+pub extern "C" fn mizdrek_report(bytes: &[u8], levels: &mut u64, magnitude: &mut u64) -> i64
+    ensures { λ r. ⌜ r ≡ signedReport (reportOf (now (bytes .entry))) ⌝ }
+    ensures { λ _. ⌜ now (levels .exit) ≡ levelsGiven (reportOf (now (bytes .entry))) (now (levels .entry)) ⌝ }
+    ensures { λ _. ⌜ now (magnitude .exit) ≡ magnitudeGiven (reportOf (now (bytes .entry))) (now (magnitude .entry)) ⌝ }
+{
+    let report = totals::add_up(bytes);
+    match report {
+        Report::Refused(why) => answer::signed(Outcome::Refused(why)),
+        Report::Of(t) => {
+            *levels = t.levels;
+            *magnitude = t.magnitude;
+            answer::signed(Outcome::Done(t.blocks))
+        }
+    }
 }

@@ -9,15 +9,17 @@ use lib.ListN.{length, set, drop, length-append, length-drop}
 use lib.Seq.{append-snoc, drop-drop}
 use Rattle.laws.proofs.Laid.{length-tab}
 use Rattle.laws.proofs.Place.{split}
+use Rattle.laws.proofs.Sum.{sumOf-append, sumOf-more}
 use Rattle.laws.specs.Store.{tab, laid}
+use Rattle.laws.specs.Sum.{sumOf}
 use Rattle.answer.specs.Answer.{Answer, answers, refuses}
 use Rattle.laws.specs.Store.{over}
 use Rattle.format.specs.Pieces.{numberAt}
 use Rattle.format.specs.Format.{Block, widthIn, heightIn, placesIn, levelIn, lengthIn, blockIn, recordAnswer, Found, blocks, damage, before, foundFrom, parse}
-use Rattle.reader.specs.Reading.{numbersOf, sidesOf, levelsOf, placesOf, counted, listFound}
+use Rattle.look.specs.Look.{areaOf, placesOf, counted, listFound}
+use Rattle.reader.specs.Reading.{numbersOf, sidesOf, levelsOf}
 use Rattle.laws.proofs.Pasted.{pasted-none, pasted-set, pasted-more, length-pasted}
 use Rattle.format.proofs.Parse.{one-more, damaged, found-nothing, length-some}
-use Rattle.reader.proofs.Passed.{places-more}
 use Rattle.format.proofs.Record.{Accepted, accepted}
 
 -- ---- the lists of a list of blocks, one block more
@@ -47,13 +49,8 @@ unfolding sidesOf
 sides-length [] = refl
 sides-length (b ∷ bs) = omega (arith, sides-length bs)
 
-pub places-append : (bs cs : List Block) → placesOf (bs ++ cs) ≡ placesOf bs + placesOf cs
-unfolding placesOf
-places-append [] cs = omega arith
-places-append (b ∷ bs) cs = omega (arith, places-append bs cs)
-
 pub places-first : (b : Block) (bs : List Block) → placesOf (b ∷ bs) ≡ b .w * b .h + placesOf bs
-unfolding placesOf
+unfolding sumOf
 places-first b bs = refl
 
 -- ---- the next of the blocks that are found
@@ -107,7 +104,7 @@ pub record Filling (s : List ℕ) (numbers₀ sides₀ : List ℕ) (levels₀ : 
   pub levels-are : levels ≡ over (levelsOf done) levels₀
 
 pub filling-none : (s numbers sides : List ℕ) (levels : List ℤ) (n : ℕ) → counted (parse s) ≡ answers n → Filling s numbers sides levels numbers sides levels 0 0 0
-unfolding numbersOf sidesOf levelsOf placesOf parse
+unfolding numbersOf sidesOf levelsOf sumOf parse
 filling-none s numbers sides levels n e = from (foundFrom 0 0 s) refl e
   where
     from : (f : Found) → foundFrom 0 0 s ≡ f → counted f ≡ answers n → Filling s numbers sides levels numbers sides levels 0 0 0
@@ -157,7 +154,7 @@ module _ {s numbers₀ sides₀ : List ℕ} {levels₀ : List ℤ} {numbers side
         omega (
           arith,
           ap (λ f. placesOf (listFound f)) (i .whole),
-          places-append (i .done) (i .rest),
+          sumOf-append areaOf (i .done) (i .rest),
           ap placesOf (now-next .first),
           places-first (blockIn t) (now-next .later),
           i .wide,
@@ -185,7 +182,7 @@ module _ {s numbers₀ sides₀ : List ℕ} {levels₀ : List ℤ} {numbers side
           whole = i .whole ∙ ap (λ (r : List Block). blocks (i .done ++ r)) (now-next .first) ∙ ap blocks (sym (append-snoc (i .done) b (now-next .later)));
           ahead = ap (λ (l : List ℕ). foundFrom (numberAt t 0 + 1) 0 l) (sym (drop-drop (lengthIn t) at s)) ∙ now-next .on;
           many = length-append (i .done) (b ∷ []) ∙ ap (λ (x : ℕ). x + 1) (i .many);
-          wide = places-more (i .done) b ∙ ap (λ (x : ℕ). x + placesIn t) (i .wide);
+          wide = sumOf-more areaOf (i .done) b ∙ ap (λ (x : ℕ). x + placesIn t) (i .wide);
           long = ap length (levels-more (i .done) b) ∙ length-append (levelsOf (i .done)) (tab (placesIn t) (levelIn t)) ∙ ap₂ _+_ (i .long) (length-tab (placesIn t) (levelIn t));
           inside = next-inside;
           numbers-are = en ∙ ap (λ (l : List ℕ). set l k (numberAt t 0)) (i .numbers-are)
@@ -223,4 +220,4 @@ module _ {s numbers₀ sides₀ : List ℕ} {levels₀ : List ℤ} {numbers side
   pub levels-long : placesOf (listFound (parse s)) ≤ length levels₀ → length levels ≡ length levels₀
   levels-long h =
       ap length (i .levels-are)
-      ∙ length-pasted levels₀ 0 (levelsOf (i .done)) (omega (arith, i .long, i .wide, ap (λ f. placesOf (listFound f)) (i .whole), places-append (i .done) (i .rest)))
+      ∙ length-pasted levels₀ 0 (levelsOf (i .done)) (omega (arith, i .long, i .wide, ap (λ f. placesOf (listFound f)) (i .whole), sumOf-append areaOf (i .done) (i .rest)))

@@ -12,7 +12,8 @@ use Rattle.laws.proofs.Divide.{ltb-div}
 use Rattle.answer.proofs.Answer.{guarded-small}
 use Rattle.answer.specs.Answer.{answers, refuses, lowest, isSmall}
 use Rattle.format.specs.Format.{Found, blocks, damage}
-use Rattle.reader.specs.Reading.{placesOf, counted, listFound, readAnswer}
+use Rattle.look.specs.Look.{placesOf, counted, listFound}
+use Rattle.reader.specs.Reading.{readAnswer}
 
 no-answer : {X : Type 0} {k n : ℕ} → refuses k ≡ answers n → X
 no-answer e = absurd (let z : _≡_ {A = ℕ} 0 1 = cc in omega arith)

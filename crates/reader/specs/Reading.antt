@@ -1,13 +1,14 @@
 -- The reader: what it answers, and what it leaves in the lent buffers.
 use mathlib.Core.Bool.{_||_}
 use mathlib.Core.List.{List, [], _∷_, _++_}
-use Prim.Native.Nat.{ℕ, _+_, _*_}
+use Prim.Native.Nat.{ℕ, _*_}
 use lib.Dec.{ltb}
 use lib.IntN.{ℤ}
 use lib.ListN.{length}
 use Rattle.laws.specs.Store.{over}
-use Rattle.answer.specs.Answer.{Answer, answers, refuses, lowest, after}
+use Rattle.answer.specs.Answer.{Answer, refuses, lowest, after}
 use Rattle.format.specs.Format.{Block, Found, blocks, damage, parse}
+use Rattle.look.specs.Look.{placesOf, listFound}
 
 -- ---- "In lent buffers a list is its block numbers, its sides (w, then h, for each), and each block's w×h levels by place, block after
 -- block without gaps."
@@ -23,23 +24,6 @@ sidesOf (b ∷ bs) = b .w ∷ b .h ∷ sidesOf bs
 unfoldable pub levelsOf : List Block → List ℤ
 levelsOf [] = []
 levelsOf (b ∷ bs) = b .levels ++ levelsOf bs
-
--- the places of all blocks
-unfoldable pub placesOf : List Block → ℕ
-placesOf [] = 0
-placesOf (b ∷ bs) = b .w * b .h + placesOf bs
-
--- ---- a look through the bytes
-
--- "The reader answers the blocks read"
-abbrev pub counted : Found → Answer
-counted (blocks bs) = answers (length bs)
-counted (damage k) = refuses k
-
--- the blocks that are found, none where the bytes are damaged
-abbrev pub listFound : Found → List Block
-listFound (blocks bs) = bs
-listFound (damage k) = []
 
 -- ---- the reader
 

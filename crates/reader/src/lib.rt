@@ -1,6 +1,4 @@
-// The reader of block records. The crate `format` says what records are.
-mod bytes;
-mod look;
+// The reader of block records. The crate `format` says what records are, `look` whether they are right.
 mod read;
 
 pub use read::read_records;

@@ -1,6 +1,4 @@
 // Reading records. s is the bytes from a record's first on.
-use super::bytes;
-use super::look;
 use answer::Outcome;
 use answer::Refusal;
 ghost use mathlib.Core.Path.{_≡_};
@@ -13,7 +11,8 @@ ghost use Rattle.laws.specs.Store.{laid, over};
 ghost use Rattle.answer.specs.Answer.{told, answers};
 ghost use Rattle.format.specs.Pieces.{ofWord, numberAt};
 ghost use Rattle.format.specs.Format.{widthIn, heightIn, placesIn, countIn, listIn, levelIn, lengthIn, parse};
-ghost use Rattle.reader.specs.Reading.{numbersOf, sidesOf, levelsOf, placesOf, counted, listFound, readAnswer, numbersAfter, sidesAfter, levelsAfter};
+ghost use Rattle.look.specs.Look.{placesOf, counted, listFound};
+ghost use Rattle.reader.specs.Reading.{numbersOf, sidesOf, levelsOf, readAnswer, numbersAfter, sidesAfter, levelsAfter};
 
 fn lower(a: usize, b: usize) -> usize
     ensures { λ r. ⌜ r ≡ min a b ⌝ }
@@ -28,7 +27,7 @@ fn level_if(s: &[u8], bit: u8, at: usize) -> i32
     ensures { λ r. ⌜ r ≡ cond (eqb bit 1) (ofWord (numberAt (now (s .entry)) at)) (pos 0) ⌝ }
 {
     let from = lower(at, s.len() - 4);
-    bytes::of_word(bytes::number_at(s, from) * (bit as u32))
+    look::of_word(look::number_at(s, from) * (bit as u32))
 }
 
 // Eight zeros.
@@ -100,7 +99,7 @@ fn put_block(
 {
     let w = look::width_in(s);
     let h = look::height_in(s);
-    numbers[k] = bytes::number_at(s, 0);
+    numbers[k] = look::number_at(s, 0);
     sides[2 * k] = w;
     sides[2 * k + 1] = h;
     lay_levels(s, w * h, levels, place)

@@ -27,7 +27,8 @@ use Rattle.format.proofs.Record.{Whole, whole}
 use Rattle.format.specs.Pieces.{Bytes, isNear}
 use Rattle.format.specs.Format.{Block, bytesOf, isBlock, areBlocks, Found, blocks, damage, parse}
 use Rattle.records.specs.Both.{WrittenRead, ReadWritten, BothWays}
-use Rattle.reader.specs.Reading.{numbersOf, sidesOf, levelsOf, placesOf, listFound, readAnswer, numbersAfter, sidesAfter, levelsAfter}
+use Rattle.look.specs.Look.{placesOf, listFound}
+use Rattle.reader.specs.Reading.{numbersOf, sidesOf, levelsOf, readAnswer, numbersAfter, sidesAfter, levelsAfter}
 use Rattle.writer.specs.Writing.{blockFrom, placeAt, blockAt, blocksIn, areSides, areNear, isRising, byBuffers, writeAnswer, bytesAfter}
 use Rattle.writer.proofs.Admitted.{Admitted, admitted}
 use Rattle.records.proofs.Back.{written-reads}
@@ -173,7 +174,7 @@ module _ (n : ℕ) (numbers sides : List ℕ) (levels : List ℤ) (room : ℕ) (
 -- ---- the writer on what the reader read
 
 -- what an accepted reading has found
-record Reads (f : Found) (n numbers sides levels : ℕ) : Type 0 where
+pub record Reads (f : Found) (n numbers sides levels : ℕ) : Type 0 where
   pub list : List Block
   pub is : f ≡ blocks list
   pub many : length list ≡ n
@@ -181,7 +182,7 @@ record Reads (f : Found) (n numbers sides levels : ℕ) : Type 0 where
   pub sides-room : 2 * length list ≤ sides
   pub levels-room : placesOf list ≤ levels
 
-reads : (f : Found) (n numbers sides levels : ℕ) → readAnswer f numbers sides levels ≡ answers n → Reads f n numbers sides levels
+pub reads : (f : Found) (n numbers sides levels : ℕ) → readAnswer f numbers sides levels ≡ answers n → Reads f n numbers sides levels
 reads (blocks bs) n numbers sides levels e =
     let a = passed _ _ _ _ _ (sym e) in
     let b = neither (ltb numbers (length bs)) (ltb sides (2 * length bs) || ltb levels (placesOf bs)) (a .0) in

@@ -12,13 +12,14 @@ use Rattle.laws.proofs.Bool.{both}
 use Rattle.laws.proofs.Front.{tab-cons}
 use Rattle.laws.proofs.Laid.{tab-ext}
 use Rattle.laws.specs.Store.{tab}
-use Rattle.laws.specs.Sum.{sumℕ}
+use Rattle.laws.proofs.Sum.{sumOf-more}
+use Rattle.laws.specs.Sum.{sumℕ, sumOf}
 use Rattle.format.proofs.Record.{whole}
 use Rattle.format.specs.Format.{Block, areBlocks}
-use Rattle.reader.specs.Reading.{numbersOf, sidesOf, levelsOf, placesOf}
+use Rattle.look.specs.Look.{areaOf, placesOf}
+use Rattle.reader.specs.Reading.{numbersOf, sidesOf, levelsOf}
 use Rattle.writer.specs.Writing.{blockFrom, placesAt, placeAt, blockAt, blocksIn}
 use Rattle.reader.proofs.Filling.{numbers-more, sides-more, levels-more}
-use Rattle.reader.proofs.Passed.{places-more}
 
 -- ---- from buffers
 
@@ -51,10 +52,10 @@ module _ (numbers sides : List ℕ) (levels : List ℤ) where
       ∙ sym (take-add (placeAt sides n) (placesAt sides n) levels)
 
   pub places-held : (n : ℕ) → placesOf (blocksIn n numbers sides levels) ≡ placeAt sides n
-  unfolding blocksIn tab placesOf blockAt blockFrom placeAt sumℕ
+  unfolding blocksIn tab sumOf blockAt blockFrom placeAt sumℕ
   places-held zero = refl
   places-held (suc n) =
-      places-more (blocksIn n numbers sides levels) (blockAt numbers sides levels n) ∙ ap (λ (k : ℕ). k + placesAt sides n) (places-held n)
+      sumOf-more areaOf (blocksIn n numbers sides levels) (blockAt numbers sides levels n) ∙ ap (λ (k : ℕ). k + placesAt sides n) (places-held n)
 
 -- ---- to buffers
 
@@ -102,7 +103,7 @@ held low (b ∷ bs) e ns ss ls =
 
 -- as many levels as places
 pub levels-many : (low : ℕ) (bs : List Block) → areBlocks low bs ≡ true → length (levelsOf bs) ≡ placesOf bs
-unfolding areBlocks levelsOf placesOf
+unfolding areBlocks levelsOf sumOf
 levels-many low [] e = refl
 levels-many low (b ∷ bs) e =
     let u = both _ _ e in

@@ -1,5 +1,6 @@
 //! A call of the reader or of the writer, with all that it is lent.
 
+use super::report;
 use crate::check::Run;
 use crate::difference::{Difference, Input, same};
 use crate::lent::Lent;
@@ -63,9 +64,13 @@ impl Case {
         if self.count.is_some() { "mizdrek_write_records" } else { "mizdrek_read_records" }
     }
 
-    /// Makes the call and compares its answer and each buffer, also what isn't lent of it.
+    /// Makes the call and compares its answer and each buffer, also what isn't lent of it. Bytes that are
+    /// read are reported too.
     pub fn compare(&self, run: &mut Run) -> Result<Answer, Difference> {
         run.case();
+        if self.count.is_none() {
+            _ = report::compare(&mut run.random, &self.bytes, self.lent[0])?;
+        }
         self.compare_call().map_err(|d| {
             let inputs: [Input; 6] = [
                 ("count", &self.count),

@@ -1,5 +1,5 @@
 //! Block records: lists through the writer and back, what each call refuses, files that are cut or have a bit
-//! flipped at every place, and files that are damaged in any way.
+//! flipped at every place, files that are damaged in any way, and the report of each of them.
 
 mod any_blocks;
 mod both_ways;
@@ -11,6 +11,8 @@ mod files;
 mod lists;
 mod reading;
 mod record;
+mod report;
+mod totals;
 mod writing;
 
 use super::Run;
@@ -25,6 +27,7 @@ const EXAMPLE: [u8; 15] = [7, 0, 0, 0, 0, 0x21, 0, 3, 0, 0, 0, 0xff, 0xff, 0xff,
 
 pub fn compare(run: &mut Run) -> Outcome {
     example(run)?;
+    totals::compare(run)?;
     edges::compare(run)?;
     lists::compare(run)?;
     writing::compare(run)?;

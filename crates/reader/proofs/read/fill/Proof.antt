@@ -11,7 +11,7 @@ use Rattle.format.specs.Format.{widthIn, heightIn, placesIn, levelIn, lengthIn}
 use Rattle.reader.specs.Reading.{numbersOf, sidesOf, levelsOf}
 use Rattle.laws.proofs.Part.{rest-is}
 use Rattle.reader.proofs.Filling.{Filling, filling-none, now-next, next-room, next-inside, filling-more, filled-all, numbers-long, sides-long, levels-long}
-use Rattle.reader.proofs.Looked.{length-is}
+use Rattle.look.proofs.Looked.{length-is}
 use Rattle.reader.proofs.read.fill.Statement.{statement}
 use Rattle.reader.proofs.read.fill.Tie as tie
 

@@ -10,8 +10,8 @@ use Rattle.laws.proofs.Pasted.{laid-none, laid-both}
 use Rattle.laws.specs.Store.{laid}
 use Rattle.format.specs.Format.{countIn, listIn, levelIn}
 use Rattle.format.proofs.Sides.{sized-in}
-use Rattle.reader.proofs.Looked.{length-is}
-use Rattle.reader.proofs.Places.{count-none}
+use Rattle.look.proofs.Looked.{length-is}
+use Rattle.look.proofs.Counted.{count-none}
 use Rattle.reader.proofs.read.lay_levels.Statement.{statement}
 use Rattle.reader.proofs.read.lay_levels.Tie as tie
 

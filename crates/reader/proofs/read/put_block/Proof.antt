@@ -6,7 +6,7 @@ use borrow.Author.Needs.{needs}
 use lib.ListN.{length, set}
 use Rattle.laws.specs.Store.{laid}
 use Rattle.format.specs.Format.{placesIn, levelIn}
-use Rattle.reader.proofs.Looked.{length-is}
+use Rattle.look.proofs.Looked.{length-is}
 use Rattle.format.proofs.Sides.{sized-in}
 use Rattle.reader.proofs.read.put_block.Statement.{statement}
 use Rattle.reader.proofs.read.put_block.Tie as tie

@@ -7,7 +7,8 @@ use lib.ListN.{length}
 use Rattle.answer.proofs.Answer.{kept, written}
 use Rattle.answer.specs.Answer.{told, answers}
 use Rattle.format.specs.Format.{parse}
-use Rattle.reader.specs.Reading.{placesOf, counted, listFound, numbersAfter, sidesAfter, levelsAfter}
+use Rattle.look.specs.Look.{placesOf, counted, listFound}
+use Rattle.reader.specs.Reading.{numbersAfter, sidesAfter, levelsAfter}
 use Rattle.reader.proofs.Lent.{short-room, read-damaged, read-short, read-done}
 use Rattle.reader.proofs.read.read_records.Statement.{statement}
 use Rattle.reader.proofs.read.read_records.Tie as tie
