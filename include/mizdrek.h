@@ -3,9 +3,9 @@
  * `rt staticlib mizdrek` writes.
  *
  * Answers. A call returns a signed number: 0 or more is its answer; below 0 it is minus the number of a refusal (see
- * mizdrek_refusal). Where several refusals apply, the lowest number is returned; the calls on a plane and the reader and
- * the report of records have orders of their own, which their comments give. A refused call changes no buffer, no ticket,
- * no plane and no other number that it was lent.
+ * mizdrek_refusal). Where several refusals apply, the lowest number is returned; the calls on a plane, the reader and the
+ * report of records and the choice of a trial have orders of their own, which their comments give. A refused call changes
+ * no buffer, no ticket, no plane and no other number that it was lent.
  *
  * Buffers. A buffer is two arguments: a pointer, then how many elements it holds, its `_len`. A call reads or writes only
  * the first part of a buffer, as its comment says, and refuses with MIZDREK_SHORT_BUFFER where the buffer is shorter.
@@ -47,14 +47,15 @@ enum mizdrek_refusal {
     MIZDREK_BATCH_ORDER = 6,
     /* A quantizer setting is outside its range. */
     MIZDREK_BAD_SETTING = 7,
-    /* A scan has more than 1024 entries, or an entry means a place past the end of the coefficients. */
+    /* A scan has more than 1024 entries, or an entry means a place past the end of the coefficients; or more than 1024
+     * levels are to be chosen by. */
     MIZDREK_SCAN_RANGE = 8,
     /* A coefficient that is to be quantized lies outside -1048576 to 1048576. */
     MIZDREK_COEFFICIENT_RANGE = 9,
     /* The bytes end inside a record. */
     MIZDREK_CUT_RECORD = 10,
-    /* A record's side byte has one of its upper four bits set, or a level is beyond 2^30 from zero; or a level that a
-     * record holds is zero. */
+    /* A record's side byte has one of its upper four bits set, or a level is beyond 2^30 from zero, in a record or in a
+     * trial; or a level that a record holds is zero. */
     MIZDREK_BAD_RECORD = 11,
     /* A block number isn't above the one before. */
     MIZDREK_RECORD_ORDER = 12,
@@ -238,6 +239,17 @@ int64_t mizdrek_quantize_to_levels(size_t width, uint32_t step, float factor, fl
                                    const uint16_t *scan, size_t scan_len,
                                    float *levels, size_t levels_len,
                                    float *magnitudes, size_t magnitudes_len);
+
+/*
+ * Chooses between two trials of a block by the sums of the magnitudes of their first `count` levels. Answers 0 where the
+ * first trial's sum is the smaller or both are the same, and 1 where the second's is: the levels to keep are the first
+ * `count` of that buffer, where they stand. A count of 0 answers 0. Both buffers are only read, and may overlap. Refused
+ * by the first that applies of MIZDREK_SCAN_RANGE, for a count above 1024, MIZDREK_SHORT_BUFFER, and MIZDREK_BAD_RECORD,
+ * where one of the first `count` levels of either trial is beyond 2^30 from zero.
+ */
+int64_t mizdrek_lighter(const int32_t *first, size_t first_len,
+                        const int32_t *second, size_t second_len,
+                        size_t count);
 
 /*
  * Reads block records, one after the other up to the end of bytes, and answers how many blocks they are. A record is

@@ -547,6 +547,43 @@ static void long_report(void)
     munmap(zeros, length);
 }
 
+/* A choice between two pairs of levels by the first `count` of each, which are as before after it. */
+static void expect_lighter(const char *what, int32_t a, int32_t b, int32_t c, int32_t d, size_t count, int64_t answer)
+{
+    const int32_t before[4] = {a, b, c, d};
+    int32_t first[2] = {a, b}, second[2] = {c, d};
+    expect(what, mizdrek_lighter(first, 2, second, 2, count), answer);
+    expect_same(what, first, before, 2);
+    expect_same(what, second, before + 2, 2);
+}
+
+static void lighter(void)
+{
+    const int32_t limit = 1073741824;
+    static int32_t most[1025], more[1025];
+    expect_lighter("3 -4 and -2 1", 3, -4, -2, 1, 2, 1);
+    expect_lighter("-2 1 and 3 -4", -2, 1, 3, -4, 2, 0);
+    expect_lighter("3 -4 and 0 7, a tie", 3, -4, 0, 7, 2, 0);
+    expect_lighter("5 -5 and 1 1", 5, -5, 1, 1, 2, 1);
+    expect_lighter("1 9 and 2 0 by one level", 1, 9, 2, 0, 1, 0);
+    expect_lighter("9 9 and 0 0 by no level", 9, 9, 0, 0, 0, 0);
+    expect_lighter("2^30 and -2^30", limit, -limit, -limit, limit - 1, 2, 1);
+    expect_lighter("-2^30 - 1", 0, -limit - 1, 0, 0, 2, -MIZDREK_BAD_RECORD);
+    expect_lighter("2^30 + 1 in the second", 0, 0, limit + 1, 0, 2, -MIZDREK_BAD_RECORD);
+    expect_lighter("-2^31 past the count", 0, INT32_MIN, 0, INT32_MIN, 1, 0);
+    expect_lighter("three levels of two", limit + 1, 0, 0, 0, 3, -MIZDREK_SHORT_BUFFER);
+    expect_lighter("1025 levels of two", limit + 1, 0, 0, 0, 1025, -MIZDREK_SCAN_RANGE);
+
+    fill(most, 1025, limit);
+    fill(more, 1025, -limit);
+    expect("1024 levels, a tie", mizdrek_lighter(most, 1024, more, 1025, 1024), 0);
+    most[1023] -= 1;
+    expect("1024 levels, the second", mizdrek_lighter(more, 1025, most, 1024, 1024), 1);
+    expect("a short second trial", mizdrek_lighter(most, 1024, more, 1023, 1024), -MIZDREK_SHORT_BUFFER);
+    expect("1025 levels", mizdrek_lighter(most, 1025, more, 1025, 1025), -MIZDREK_SCAN_RANGE);
+    expect("a trial and itself", mizdrek_lighter(most, 1025, most, 1025, 1024), 0);
+}
+
 int main(void)
 {
     tables();
@@ -557,6 +594,7 @@ int main(void)
     plane();
     wht();
     levels();
+    lighter();
     records();
     report();
     long_report();

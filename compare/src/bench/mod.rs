@@ -3,6 +3,7 @@
 
 mod batches;
 mod blocks;
+mod choice;
 mod passes;
 mod plain_records;
 mod planes;
@@ -36,6 +37,7 @@ pub const GROUPS: &[Group] = &[
     Group { name: "tickets", columns: RUST, rows: batches::rows },
     Group { name: "wht", columns: RUST, rows: wht::rows },
     Group { name: "quant", columns: RUST, rows: quant::rows },
+    Group { name: "choice", columns: RUST, rows: choice::rows },
     Group { name: "refused", columns: RUST, rows: refused::rows },
     Group { name: "previews", columns: BATCH, rows: previews::rows },
     Group { name: "planes", columns: BARE, rows: planes::rows },

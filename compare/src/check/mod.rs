@@ -3,6 +3,7 @@
 mod block_case;
 mod blocks;
 mod call;
+mod choice;
 mod claim;
 mod lanes;
 mod made_up;
@@ -38,6 +39,7 @@ pub const GROUPS: &[Group] = &[
     Group { name: "records", compare: records::compare },
     Group { name: "wht", compare: wht::compare },
     Group { name: "quant", compare: quant::compare },
+    Group { name: "choice", compare: choice::compare },
 ];
 
 /// Compares the named groups, or all, up to the first difference. Gives back whether there was none.

@@ -1,7 +1,7 @@
 //! What a call gives back: a number from 0 up is an answer, a number below is minus a refusal's.
 
-/// Why a call was refused. The lowest number that applies is given; calls on a plane and the reader and the
-/// report of records have orders of their own.
+/// Why a call was refused. The lowest number that applies is given; calls on a plane, the reader and the
+/// report of records and the choice of a trial have orders of their own.
 #[derive(Clone, Copy, Debug, PartialEq, Eq)]
 pub enum Refusal {
     /// 1: a side, a width, a line count or a shift that there isn't.
@@ -18,13 +18,13 @@ pub enum Refusal {
     BatchOrder,
     /// 7: a quantizer setting outside its range.
     BadSetting,
-    /// 8: a scan longer than 1,024, or a place past the coefficients.
+    /// 8: a scan longer than 1,024, or a place past the coefficients; a choice by more than 1,024 levels.
     ScanRange,
     /// 9: a coefficient outside -1048576 to 1048576.
     CoefficientRange,
     /// 10: the bytes end inside a record.
     CutRecord,
-    /// 11: a side byte with an upper bit, or a level that is zero or beyond 2^30 from it.
+    /// 11: a side byte with an upper bit, or a level that is zero or beyond 2^30 from it; in a choice, beyond.
     BadRecord,
     /// 12: a block number that isn't above the one before.
     RecordOrder,

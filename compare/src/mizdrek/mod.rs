@@ -3,6 +3,7 @@
 
 mod answer;
 mod block;
+mod choice;
 mod disk;
 mod levels;
 mod pass;
@@ -15,6 +16,7 @@ mod wht;
 
 pub use answer::{Refusal, read};
 pub use block::block;
+pub use choice::lighter;
 pub use disk::{read_records, report, write_records};
 pub use levels::{qstep, quantize_one, quantize_to_levels};
 pub use pass::pass;

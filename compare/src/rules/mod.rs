@@ -1,8 +1,9 @@
 //! Document 01's refusals, read from its table: what each call must answer. Each function tests in the
-//! order of the numbers, so that the lowest that applies is given; planes and the reader and the report of
-//! records have orders of their own.
+//! order of the numbers, so that the lowest that applies is given; planes, the reader and the report of
+//! records and the choice of a trial have orders of their own.
 
 pub mod batch;
+pub mod choice;
 pub mod levels;
 pub mod plane;
 pub mod preview;

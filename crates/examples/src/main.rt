@@ -1,6 +1,6 @@
 // Document 01's entries under "Frames on the light table" that aren't marked P, run: a line for each. Those marked P are the list of
-// specs/Examples.antt. And a list of batches, played, a preview beside its batch, and two
-// rooms on one plane.
+// specs/Examples.antt. And a list of batches, played, a preview beside its batch, two rooms on one plane, and
+// the lighter of two trials.
 use answer::Outcome;
 use plane::Plane;
 use plane::Site;
@@ -206,6 +206,22 @@ fn planes() {
     tile_columns(b"room 1, columns of tile 1 again", p7, 1, &mut scratch);
 }
 
+// The lighter of two trials: why it is refused, or 0; how many levels are given, and the first of them.
+fn trials<'a>(entry: &[u8], first: &'a [i32], second: &'a [i32], count: usize) {
+    let number = choice::refused_by(first, second, count);
+    let part = choice::lighter(first, second, count);
+    print_text(entry);
+    print_text(b": refused by ");
+    text::print_in_column(false, number as u64, 0);
+    print_text(b"; levels given: ");
+    text::print_in_column(false, part.len() as u64, 0);
+    if 0 < part.len() {
+        print_text(b", the first");
+        print_number(part[0]);
+    }
+    print_text(b"\n");
+}
+
 fn main() {
     blocks();
     // "Step 0: number 7. Step 1: accepted."
@@ -220,4 +236,23 @@ fn main() {
     list();
     preview();
     planes();
+    trials(
+        b"trials 3 -4 and -2 1, 2 levels",
+        &[3i32, -4],
+        &[-2i32, 1],
+        2,
+    );
+    trials(b"trials 3 -4 and 0 7, 2 levels", &[3i32, -4], &[0i32, 7], 2);
+    trials(
+        b"trials 3 -4 and -2 1, no level",
+        &[3i32, -4],
+        &[-2i32, 1],
+        0,
+    );
+    trials(
+        b"trials 3 -4 and -2 1, 3 levels",
+        &[3i32, -4],
+        &[-2i32, 1],
+        3,
+    );
 }

@@ -3,7 +3,7 @@ use mathlib.Core.Bool.{not, _&&_}
 use mathlib.Core.List.{List}
 use mathlib.Core.Logic.{⊎-elim}
 use mathlib.Core.Path.{_≡_, refl, ap, _∙_}
-use Prim.Native.Nat.{ℕ, _+_, _-_, _*_, _/_, _%_, _^_, _≤_, _<_}
+use Prim.Native.Nat.{ℕ, _+_, _-_, _/_, _%_, _^_, _<_}
 use native.Mathlib.Omega.{arith}
 use borrow.Author.Tests.{eq-eqb, ne-eqb, lt-ltb, le-ltb, le-leb, lt-leb}
 use lib.Bits.{bitOr}
@@ -11,9 +11,8 @@ use lib.Dec.{eqb, leb, ltb}
 use lib.IntN.{natAbs}
 use Rattle.laws.proofs.Bits.{or-ltb}
 use Rattle.laws.proofs.Every.{every-turn}
+use Rattle.laws.proofs.Halves.{Halves, halves-none, halves-more}
 use Rattle.laws.proofs.Place.{split}
-use Rattle.laws.proofs.Sum.{sumℕ-turn}
-use Rattle.laws.specs.Sum.{sumℕ}
 use Rattle.format.specs.Pieces.{stands, isNear}
 use Rattle.format.specs.Format.{listedIn}
 use Rattle.look.specs.Look.{areRight}
@@ -33,25 +32,19 @@ right-before m x small e =
 
 -- after i levels
 pub record Summed (s : List ℕ) (lower upper reach i : ℕ) : Type 0 where
-  pub sum : 65536 * upper + lower ≡ sumℕ i (λ i. natAbs (listedIn s i))
+  pub sum : Halves (λ i. natAbs (listedIn s i)) lower upper i
   pub right : ltb reach (2 ^ 30) ≡ areRight s i
-  pub lower-most : lower ≤ 65536 * i
-  pub upper-most : upper ≤ 65536 * i
 
 pub summed-none : (s : List ℕ) → Summed s 0 0 0 0
-unfolding sumℕ
-summed-none s = record { sum = refl; right = refl; lower-most = omega arith; upper-most = omega arith }
+summed-none s = record { sum = halves-none (λ i. natAbs (listedIn s i)); right = refl }
 
 -- and one more
 pub summed-more : {s : List ℕ} {lower upper reach i : ℕ} → Summed s lower upper reach i → {m x : ℕ} → m ≡ natAbs (listedIn s i) → m < 2 ^ 32 → x < 2 ^ 32
     → (x + 1) % 2 ^ 32 ≡ m → Summed s (lower + m % 65536) (upper + m / 65536) (bitOr x reach) (i + 1)
 summed-more {s} {lower} {upper} {reach} {i} h {m} {x} level small below e =
     record {
-      sum = (let z : 65536 * (upper + m / 65536) + (lower + m % 65536) ≡ 65536 * upper + lower + m = omega arith in z)
-          ∙ sumℕ-turn (λ i. natAbs (listedIn s i)) i (h .sum) level;
+      sum = halves-more (h .sum) level small;
       right = or-ltb 30 x reach
           ∙ every-turn (λ i. stands (listedIn s i) && isNear (listedIn s i)) i
           (right-before m x below e ∙ ap (λ (n : ℕ). not (eqb n 0) && leb n (2 ^ 30)) level) (h .right);
-      lower-most = omega (arith, h .lower-most);
-      upper-most = omega (arith, h .upper-most);
     }

@@ -1,4 +1,4 @@
-// Steps, one place and the levels of a scan.
+// Steps, one place, the levels of a scan, and the lighter of two trials.
 use answer::Outcome;
 use quant::Place;
 use quant::Quantized;
@@ -6,6 +6,7 @@ use quant::Settings;
 ghost use mathlib.Core.Path.{_≡_};
 ghost use lib.ListN.{length};
 ghost use Rattle.answer.specs.Answer.{signedOf};
+ghost use Rattle.choice.specs.Choice.{choiceAnswer};
 ghost use Rattle.quant.specs.Place.{oneAnswer};
 ghost use Rattle.quant.specs.Scan.{scanAnswer, levelsAfter, magnitudesAfter};
 ghost use Rattle.quant.specs.Step.{stepOf};
@@ -87,4 +88,12 @@ pub extern "C" fn mizdrek_quantize_to_levels(
         magnitudes,
     );
     answer::signed(outcome)
+}
+
+// 0 where the first buffer is the lighter, as on a tie, and 1 where the second is: a reference can't be handed to C.
+#[no_mangle]
+pub extern "C" fn mizdrek_lighter(first: &[i32], second: &[i32], count: usize) -> i64
+    ensures { λ r. ⌜ r ≡ signedOf (choiceAnswer (now (first .entry)) (now (second .entry)) count) ⌝ }
+{
+    answer::signed(choice::which(first, second, count))
 }

@@ -37,10 +37,10 @@ wrapping-sub-u32-requires : tie.Need-wrapping-sub-u32-requires Inv-loop μ-loop
 wrapping-sub-u32-requires c κs = tt
 
 add-lower : tie.Need-add-lower Inv-loop μ-loop
-add-lower c = omega (arith, c .before .before .before .before .loop .inv .0 .lower-most)
+add-lower c = omega (arith, c .before .before .before .before .loop .inv .0 .sum .lower-most)
 
 add-upper : tie.Need-add-upper Inv-loop μ-loop
-add-upper c = let w = c .before .magnitude-of .ok in omega (arith, c .before .before .before .before .loop .inv .0 .upper-most)
+add-upper c = let w = c .before .magnitude-of .ok in omega (arith, c .before .before .before .before .loop .inv .0 .sum .upper-most)
 
 add-i : tie.Need-add-i Inv-loop μ-loop
 add-i c = omega arith
@@ -72,14 +72,14 @@ cast-t16 : tie.Need-cast-t16 Inv-loop μ-loop
 cast-t16 c = search needs
 
 add-t17 : tie.Need-add-t17 Inv-loop μ-loop
-add-t17 c = omega (arith, c .before .loop .inv .0 .lower-most, c .before .loop .inv .0 .upper-most)
+add-t17 c = omega (arith, c .before .loop .inv .0 .sum .lower-most, c .before .loop .inv .0 .sum .upper-most)
 
 returns : tie.Need-returns Inv-loop μ-loop
 returns c =
     let a = c .before .before .before .args in
     let h = c .before .loop .inv .0 in
     let done : c .before .loop .i ≡ a .count = omega arith in
-    (h .right ∙ ap (areRight (a .s .now)) done, h .sum ∙ ap (λ (k : ℕ). sumℕ k (λ i. natAbs (listedIn (a .s .now) i))) done)
+    (h .right ∙ ap (areRight (a .s .now)) done, h .sum .sum ∙ ap (λ (k : ℕ). sumℕ k (λ i. natAbs (listedIn (a .s .now) i))) done)
 
 pub sum-levels-spec : {M : Type 1} → statement M
 sum-levels-spec =
