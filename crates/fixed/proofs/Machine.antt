@@ -89,12 +89,12 @@ wide {z} f = subst (λ (y : ℤ). SFits w64 y) (sym (to_z-of_z f)) (sfits_widen 
 pub wrapped_fits : (v x : ℤ) → v ≡ wrap32 x → SFits w32 (to_z w64 (of_z w64 v))
 wrapped_fits v x e =
     subst (λ (y : ℤ). SFits w32 (to_z w64 (of_z w64 y))) (sym e)
-    (subst (λ (y : ℤ). SFits w32 y) (sym (to_z-of_z (sfits_widen tt (wrap32_fits x)))) (wrap32_fits x))
+    (subst (λ (y : ℤ). SFits w32 y) (sym (to_z-of_z {w = w64} (sfits_widen tt (wrap32_fits x)))) (wrap32_fits x))
 
 pub wrapped_read : (v x : ℤ) → v ≡ wrap32 x → to_z w32 (of_z w32 (to_z w64 (of_z w64 v))) ≡ wrap32 x
 wrapped_read v x e =
     ap (λ (y : ℤ). to_z w32 (of_z w32 (to_z w64 (of_z w64 y)))) e
-    ∙ ap (λ (y : ℤ). to_z w32 (of_z w32 y)) (to_z-of_z (sfits_widen tt (wrap32_fits x))) ∙ to_z-of_z (wrap32_fits x)
+    ∙ ap (λ (y : ℤ). to_z w32 (of_z w32 y)) (to_z-of_z {w = w64} (sfits_widen tt (wrap32_fits x))) ∙ to_z-of_z (wrap32_fits x)
 
 pub add_fits : {a b : ℤ} → SFits w32 a → SFits w32 b → SFits w64 (a +ℤ b)
 add_fits {a} {b} f g = record { sfits = lt_of_lt_of_le (mag_add a b (2 ^ 31) f.sfits g.sfits) (lit≤ tt) }
@@ -110,7 +110,7 @@ abbrev pub seen : ℤ → ℤ
 seen a = to_z w64 (of_z w64 (to_z w32 (of_z w32 a)))
 
 pub seen_is : {a : ℤ} → SFits w32 a → seen a ≡ a
-seen_is {a} f = ap (λ (y : ℤ). to_z w64 (of_z w64 y)) (to_z-of_z f) ∙ to_z-of_z (sfits_widen tt f)
+seen_is {a} f = ap (λ (y : ℤ). to_z w64 (of_z w64 y)) (to_z-of_z f) ∙ to_z-of_z {w = w64} (sfits_widen tt f)
 
 -- an operation of 64 bits on two such operands: its need, and its result as the next operation reads it
 module _ (op : ℤ → ℤ → ℤ) {a b : ℤ} (f : SFits w32 a) (g : SFits w32 b) (h : SFits w64 (op a b)) where

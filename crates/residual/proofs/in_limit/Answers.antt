@@ -2,12 +2,8 @@
 use mir.Syntax.{w32}
 use mir.ValLaws.{to_z-of_z}
 use Rattle.residual.specs.Residual.{in_limit}
-use Rattle.residual.proofs.in_limit.Statement.{statement}
-use Rattle.residual.proofs.in_limit.Tie as tie
+use Rattle.residual.proofs.in_limit.Goals as goal
 
-returns : tie.Need-returns
+pub returns : goal.returns
 unfolding in_limit
 returns c = rw (to_z-of_z w32 c.args.residual c.ranges.residual)
-
-pub in_limit_spec : {M : Type 1} → statement M
-in_limit_spec = tie.close (tie.spec returns)
