@@ -9,8 +9,8 @@ ghost use Rattle.lines.specs.Line.{EndsIn, row_sum, place, rounded, InReach, But
 // The sum of n products: the numbers of a table from row on, apart places apart, with those of a line that
 // begins at at and has a number every stride places.
 fn row_sum(n: usize, t: &[i8], row: usize, apart: usize, x: &[i32], at: usize, stride: usize) -> i32
-    requires by_index { (k : ℕ) → k < n → row + k * apart < length t.now }
-    requires by_index_2 { (k : ℕ) → k < n → k * stride + at < length x.now }
+    requires in_table { (k : ℕ) → k < n → row + k * apart < length t.now }
+    requires in_line { (k : ℕ) → k < n → k * stride + at < length x.now }
     ensures { result ≡ wrap32 (row_sum n t.now row apart x.now at stride) }
 {
     let mut sum: i32 = 0;

@@ -1,0 +1,22 @@
+-- `lines::fold` meets its contract: after k turns k sums and k differences are stored. Assumes nothing.
+use mathlib.Core.Path.{refl, ap, ap₂, ◌∙◌}
+use Prim.Native.Nat.{ℕ, ◌+◌, ◌*◌, ◌-◌, ◌≤◌, ◌<◌}
+use native.Mathlib.Omega.{arith}
+use borrow.Author.Rules.{rules}
+use lib.IntN.{ℤ, pos, ◌+ℤ◌, ◌-ℤ◌}
+use lib.ListN.{length, get_or}
+use Rattle.laws.specs.Integer.{wrap32}
+use Rattle.laws.proofs.Store.{Stored, stored_none, stored_turn, stored_all, stored_length, stores_in}
+use Rattle.fixed.proofs.Machine.{read_32}
+use Rattle.lines.specs.Line.{line_at, sum_of, diff_of}
+use Rattle.lines.proofs.Reach.{reaches}
+use Rattle.lines.proofs.fold.Given as goal
+
+abbrev pub self : ℕ → ℕ
+self k = k
+
+abbrev pub invariant-loop-k : goal.invariant-loop-k
+invariant-loop-k l = Stored l.s l.initial.s l.k self (sum_of l.x l.at l.stride l.h) × Stored l.d l.initial.d l.k self (diff_of l.x l.at l.stride l.h) × (l.k ≤ l.h)
+
+abbrev pub decreases-loop-k : goal.decreases-loop-k
+decreases-loop-k l = l.h - l.k
