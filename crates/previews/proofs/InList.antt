@@ -1,7 +1,7 @@
 -- One preview in a list of calls, after batches that have covered the lines that done names: its answer and its numbers are those settled from
 -- these lines. Assumes nothing.
 use mathlib.Core.Path.{◌≡◌, refl, sym, ap, subst, ◌∙◌}
-use mathlib.Core.Bool.{Bool, true, false, cond, not, ◌&&◌, ◌||◌, or_true}
+use mathlib.Core.Bool.{Bool, true, false, cond, not, ◌&&◌, ◌||◌, or-true}
 use mathlib.Core.Logic.{⊎_elim}
 use mathlib.Core.List.{List}
 use Prim.Native.Nat.{ℕ, ◌+◌, ◌*◌, ◌/◌, ◌%◌, ◌≤◌, ◌<◌}
@@ -76,7 +76,7 @@ module _ (w h ck rk : ℕ) (residuals scratch output : List ℤ) (o : Opened w h
         ∙ held_line n (then b.row) (number_at w h ck rk residuals b.row) opening j (p % n) (mod-lt p some) (omega (arith, at))
         (sym (own w h ck rk residuals scratch output o reached b b.row refl e j)
         ∙ ap (λ (x : Bool). done b.row j || x) (within_in b.start b.lines j (omega arith) (omega arith))
-        ∙ or_true (done b.row j))
+        ∙ or-true (done b.row j))
 
     shown_same : after (cond short (refuses 3) answer) (lines_shown t b source target room) room
         ≡ after (cond short (refuses 3) answer) (with_lines_of w h ck rk residuals b room) room

@@ -2,7 +2,7 @@
 -- Assumes nothing.
 use mathlib.Core.Path.{◌≡◌, sym, ap, ap₂, ◌∙◌}
 use mathlib.Core.Logic.{⊎_elim}
-use mathlib.Core.Bool.{Bool, true, false, cond, ◌||◌, or_true, or-false}
+use mathlib.Core.Bool.{Bool, true, false, cond, ◌||◌, or-true, or-false}
 use mathlib.Core.List.{List}
 use Prim.Native.Nat.{ℕ, ◌+◌, ◌-◌, ◌*◌, ◌/◌, ◌%◌, ◌<◌, ◌≤◌}
 use native.Mathlib.Nat.{add-mul, div-add-mod', div-lt_iff_lt-mul, le-div_iff_mul-le, mod-lt}
@@ -84,7 +84,7 @@ module _ (n : ℕ) (p : ℕ → Bool) (g : ℕ → ℕ → ℤ) (d : List ℤ) (
       ∙ sym (ap (λ (x : ℕ). get_or (held n new g d) x (pos 0)) e
       ∙ held_line n new g d (s + k / n) (k % n) (mod-lt k some)
       (omega (arith, e, add-mul s c n))
-      (ap (λ (y : Bool). p (s + k / n) || y) (within_in s c (s + k / n) (omega arith) (omega arith)) ∙ or_true (p (s + k / n))))
+      (ap (λ (y : Bool). p (s + k / n) || y) (within_in s c (s + k / n) (omega arith) (omega arith)) ∙ or-true (p (s + k / n))))
 
   pub held_more : laid old (s * n) (c * n) line ≡ held n new g d
   held_more =

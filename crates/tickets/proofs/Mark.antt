@@ -1,7 +1,7 @@
 -- Laws of marks: a mask and its lines settle each other, and what the code's operations on masks say of lines. Assumes nothing.
 use mathlib.Core.Path.{◌≡◌, refl, sym, ap, ap₂, ◌∙◌}
 use mathlib.Core.Logic.{⊎_elim}
-use mathlib.Core.Bool.{Bool, true, false, cond, not, ◌||◌, or_true}
+use mathlib.Core.Bool.{Bool, true, false, cond, not, ◌||◌, or-true}
 use Prim.Native.Nat.{ℕ, zero, suc, ◌+◌, ◌-◌, ◌*◌, ◌/◌, ◌%◌, ◌^◌, ◌<◌, ◌≤◌}
 use native.Mathlib.Nat.{pow-suc, mul-one, one-mul, div-one, lt_of_lt_of_le}
 use native.Mathlib.Omega.{arith}
@@ -191,7 +191,7 @@ module _ (m n : ℕ) (few : n ≤ 32) (small : m < 2 ^ 32) where
       ap (λ (x : ℕ). marked x j) (sym e)
       ∙ marked_with m 0 n j (omega arith)
       ∙ ap (λ (x : Bool). marked m j || x) (within_in 0 n j (omega arith) (omega arith))
-      ∙ or_true (marked m j))
+      ∙ or-true (marked m j))
 
   pub all_marked_is : eqb (with_lines m 0 n) m ≡ all_marked n m
   unfolding all_marked

@@ -12,7 +12,7 @@ use answer::{Outcome, Refusal};
 // Document 01: "A ticket holds sides, kinds and one mark per column line and row line." Bit j of a mask is the mark of line j;
 // a mask has room for a mark past the line count, which every batch refuses.
 #[repr(C)]
-#[derive(Drop)]
+#[derive(Clone, Copy)]
 pub struct Ticket {
     pub w: usize,
     pub h: usize,
