@@ -13,7 +13,7 @@ use tickets::Ticket;
 
 // One number of a plane. Open where `opened` isn't 0; a closed one may hold anything, and nothing of it is looked at.
 #[repr(C)]
-#[derive(Drop)]
+#[derive(Clone, Copy)]
 pub struct Tile {
     pub opened: u32,
     pub room: u32,
@@ -24,7 +24,7 @@ pub struct Tile {
 
 // The record that both rooms lend in turn: the plane's sides, and its tiles by their numbers.
 #[repr(C)]
-#[derive(Drop)]
+#[derive(Clone, Copy)]
 pub struct Plane {
     pub w: usize,
     pub h: usize,
@@ -39,7 +39,7 @@ pub struct Planed {
 }
 
 // Where a room wants a tile, and its block's sides and kinds.
-#[derive(Drop)]
+#[derive(Clone, Copy)]
 pub struct Site {
     pub room: u32,
     pub x: usize,
@@ -51,7 +51,7 @@ pub struct Site {
 }
 
 // A tile's first column and row of the plane, and those past its last. All are 0 where there is no tile.
-#[derive(Drop)]
+#[derive(Clone, Copy)]
 struct Bounds {
     left: u16,
     right: u16,

@@ -1,0 +1,16 @@
+-- `plane::is_clear_at` meets its contract: after i turns `clear` speaks of the first i tiles. Assumes nothing.
+use mathlib.Core.Path.{◌≡◌, refl}
+use mathlib.Core.Bool.{not}
+use Prim.Native.Nat.{◌+◌, ◌-◌, ◌≤◌}
+use native.Mathlib.Omega.{arith}
+use Rattle.laws.specs.Table.{every}
+use Rattle.laws.proofs.Every.{every_turn}
+use Rattle.plane.specs.Bounds.{bounds_in, meet, clear_at}
+use Rattle.plane.proofs.is_clear_at.Given as goal
+
+abbrev pub invariant-loop-i : goal.invariant-loop-i
+invariant-loop-i l =
+    let b = bounds_in l.lefts l.rights l.tops l.bottoms in (l.clear ≡ every l.i (λ l.i. not (meet (b l.i) (b (l.i + l.k))))) × (l.i ≤ 16)
+
+abbrev pub decreases-loop-i : goal.decreases-loop-i
+decreases-loop-i l = 16 - l.i

@@ -1,0 +1,6 @@
+-- `plane::no_tile` meets its contract. Assumes nothing.
+use borrow.Author.Rules.{rules}
+use Rattle.plane.proofs.no_tile.Goals as goal
+
+pub returns : goal.returns
+returns c = rw c.new_ticket.ensures

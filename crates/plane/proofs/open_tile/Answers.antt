@@ -1,0 +1,46 @@
+-- `plane::open_tile` meets its contract. Assumes nothing.
+use mathlib.Core.Path.{◌≡◌, refl, sym, ap, ap₂, ◌∙◌}
+use native.Mathlib.Omega.{arith}
+use borrow.Author.Rules.{rules}
+use lib.ListN.{length}
+use Rattle.answer.specs.Answer.{told}
+use Rattle.plane.specs.Plane.{new_tile, with_tile, first_free, open_answer, opening}
+use Rattle.plane.specs.declared.Tile.{Tile}
+use Rattle.plane.proofs.Known.{OpenKnown, open_known}
+use Rattle.plane.proofs.Ways.{as_lent, changed}
+use Rattle.plane.proofs.open_tile.Goals as goal
+use Rattle.plane.proofs.open_tile.Lts as lts
+use Rattle.plane.proofs.open_tile.Reads as reads
+use Rattle.plane.proofs.open_tile.Tie as tie
+
+-- the answer to the opening
+answered : (c : lts.After-open_outcome tie.the-claims reads.Pre reads.Post) →
+    let a = c.args in
+    told c.open_outcome-outcome.result ≡ open_answer a.plane (new_tile a.site) a.residuals.now (length a.scratch.now) (length a.output.now)
+answered c =
+    let a = c.args in
+    c.open_outcome-outcome.ensures
+    ∙ ap (λ (t : Tile). open_answer a.plane t a.residuals.now (length a.scratch.now) (length a.output.now)) c.new_tile-t.ensures
+
+-- accepted
+known : (c : goal.In-Done-2) →
+    let a = c.args in
+    OpenKnown a.plane (new_tile a.site) a.residuals.now (length a.scratch.now) (length a.output.now) c.in-Done.n
+known c = open_known _ _ _ _ _ _ (sym (ap told c.in-Done.is) ∙ answered c.before)
+
+pub returns-in_default : goal.returns-in_default
+unfolding opening
+returns-in_default c =
+    let p = c.args.plane in
+    as_lent (with_tile p (first_free p) _) p (answered c.before) c.in_default.is
+
+pub with_tile-requires : goal.with_tile-requires
+with_tile-requires c = let k = known c.before in omega (arith, k.number, k.small)
+
+pub returns : goal.returns
+unfolding opening
+returns c =
+    let at = c.before.before in
+    let p = at.args.plane in
+    changed (with_tile p (first_free p) _) p (sym (ap told c.in-Done.is) ∙ answered at) refl
+    (c.with_tile.ensures ∙ ap₂ (with_tile p) (known c.before.before).number at.new_tile-t.ensures)

@@ -1,0 +1,41 @@
+-- `plane::tile_columns` meets its contract. Assumes nothing.
+use mathlib.Core.Path.{ap, ◌∙◌}
+use Prim.Native.Nat.{◌<◌}
+use native.Mathlib.Omega.{arith}
+use borrow.Author.Rules.{rules}
+use Rattle.plane.specs.Batch.{columns_in}
+use Rattle.plane.specs.Plane.{with_tile}
+use Rattle.plane.proofs.Ways.{named, not_named, columns_refused, columns_done}
+use Rattle.plane.proofs.tile_columns.Goals as goal
+
+-- past the first test
+number : (c : goal.In-Done) → c.args.n < 16
+number c = (named c.tile_outcome-outcome.ensures c.in-Done.is).small
+
+pub returns-in_default : goal.returns-in_default
+unfolding columns_in
+returns-in_default c = not_named _ c.tile_outcome-outcome.ensures _ _ c.in_default.is
+
+pub offset_bounds-plane-n : goal.offset_bounds-plane-n
+offset_bounds-plane-n c = omega (arith, number c)
+
+pub bounds-plane-n : goal.bounds-plane-n
+bounds-plane-n c = number c
+
+pub returns-in_default-result : goal.returns-in_default-result
+returns-in_default-result c =
+    let seen = c.before.before in
+    let at = seen.before.before.before.before in
+    columns_refused _ _ _ _ _ _ at.tile_outcome-outcome.ensures at.in-Done.is seen.column_batch-done.result seen.column_batch-done.ensures
+    c.in_default-result.is
+
+pub with_tile-requires : goal.with_tile-requires
+with_tile-requires c = number c.before.before.before.before.before.before.before.before
+
+pub returns : goal.returns
+returns c =
+    let seen = c.before.before.before.before.before in
+    let at = seen.before.before.before.before in
+    let a = at.args in
+    columns_done _ _ _ _ _ _ at.tile_outcome-outcome.ensures at.in-Done.is seen.column_batch-done.result seen.column_batch-done.ensures
+    c.in-Done-result.is (c.with_tile.ensures ∙ ap (with_tile a.t1 a.n) c.with_ticket.ensures)
