@@ -1,4 +1,6 @@
 // The lighter of two trials: of two lent buffers of levels, the first levels of the one with the smaller sum of magnitudes.
+#![tactic(auto)]
+
 ghost use Rattle.std.specs.Prelude.{◌≡◌, ◌^◌, ◌≤◌, nat_abs, length};
 ghost use Rattle.answer.specs.Answer.{told};
 ghost use Rattle.choice.specs.Choice.{weight, are_near, choice_answer, number_in, part_at, lighter_of};

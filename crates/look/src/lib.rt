@@ -1,5 +1,7 @@
 // A look through the bytes of block records: whether each record is whole and right, and what its levels add up to, with nothing unpacked. What
 // reading and the totals stand on. The crate `format` says what records are.
+#![tactic(auto)]
+
 mod bytes;
 mod file;
 mod levels;

@@ -1,7 +1,7 @@
 // f32 worked out by the program: absolute, sign, maximum with 0, and the nearest whole number.
 ghost use Rattle.std.specs.Prelude.{◌≡◌, not, cond, T};
 ghost use Rattle.std.specs.Float.Ieee.{is_nan, lt};
-ghost use Rattle.quant.specs.Float.{one32, negative, abs_of, sign_of, max0Of, plain, round_of};
+ghost use Rattle.quant.specs.Float.{one32, negative, abs_of, sign_of, max0_of, plain, round_of};
 
 // Whether the sign's bit of x is set.
 fn is_negative(x: f32) -> bool
@@ -29,7 +29,7 @@ pub(crate) fn sign(x: f32) -> f32
 
 // x where it is above zero, and +0.0 otherwise.
 pub(crate) fn max0(x: f32) -> f32
-    ensures { result ≡ max0Of x }
+    ensures { result ≡ max0_of x }
 {
     if 0.0 < x { x } else { 0.0 }
 }

@@ -29,7 +29,7 @@ pub(crate) fn coefficient_ok(coefficient: i32) -> bool
 }
 
 // What settings and step come to, once for all coefficients.
-#[derive(Drop)]
+#[derive(Clone, Copy)]
 pub(crate) struct Scale {
     pub(crate) inverse: f32,
     pub(crate) threshold: f32,
@@ -55,8 +55,8 @@ pub(crate) struct Written {
 }
 
 pub(crate) fn quantize(scale: Scale, coefficient: i32) -> Written
-    requires t { T (in_float binary32 coefficient) }
-    requires t_2 { T (finite scale.inverse) }
+    requires coefficient_exact { T (in_float binary32 coefficient) }
+    requires inverse_finite { T (finite scale.inverse) }
     ensures { (result.level ≡ level_of scale.threshold scale.bias (product_of scale.inverse coefficient)) × (result.magnitude ≡ abs_of (product_of scale.inverse coefficient)) }
 {
     let product = coefficient as f32 * scale.inverse;

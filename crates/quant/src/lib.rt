@@ -1,4 +1,6 @@
 // Quantizing: the step of an index, and the levels of coefficients.
+#![tactic(auto)]
+
 use answer::Refusal;
 
 mod float;
@@ -11,7 +13,7 @@ pub use scan::quantize_to_levels;
 pub use step::qstep;
 
 // The quantizer's settings. The integer step goes beside them.
-#[derive(Drop)]
+#[derive(Clone, Copy)]
 pub struct Settings {
     pub factor: f32,
     pub threshold: f32,

@@ -112,8 +112,8 @@ fn coefficients_ok(n: usize, named: &[i32]) -> bool
 // The levels and magnitudes of the first n coefficients.
 fn fill(scale: Scale, n: usize, named: &[i32], levels: &mut [f32], magnitudes: &mut [f32])
     requires n_in_bounds { (n ≤ length named.now) × (n ≤ length levels.old) × (n ≤ length magnitudes.old) }
-    requires pos_value { every n (λ i. coefficient_ok (get_or named.now i (pos 0))) ≡ true }
-    requires t { T (finite scale.inverse) }
+    requires in_range { every n (λ i. coefficient_ok (get_or named.now i (pos 0))) ≡ true }
+    requires inverse_finite { T (finite scale.inverse) }
     ensures levels_after { levels.new ≡ laid levels.old 0 n (λ i. level_of scale.threshold scale.bias (product_of scale.inverse (get_or named.now i (pos 0)))) }
     ensures magnitudes_after { magnitudes.new ≡ laid magnitudes.old 0 n (λ i. abs_of (product_of scale.inverse (get_or named.now i (pos 0)))) }
 {
@@ -161,7 +161,7 @@ fn write(
     levels: &mut [f32],
     magnitudes: &mut [f32],
 ) -> Outcome
-    requires scan_value { answers (length scan.now) ≡ lowest (by_card width step settings (length scan.now) (length levels.old) (length magnitudes.old)) (length scan.now) }
+    requires admitted { answers (length scan.now) ≡ lowest (by_card width step settings (length scan.now) (length levels.old) (length magnitudes.old)) (length scan.now) }
     requires scan_len_bound { (length scan.now ≤ 1024) × (length scan.now ≤ length places.old) × (length scan.now ≤ length named.old) }
     ensures result_value { told result ≡ scan_answer width step settings coefficients.now scan.now (length levels.old) (length magnitudes.old) }
     ensures levels_after { levels.new ≡ levels_after width step settings coefficients.now scan.now levels.old magnitudes.old }

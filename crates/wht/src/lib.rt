@@ -1,4 +1,6 @@
 // The forward 4×4 WHT.
+#![tactic(auto)]
+
 ghost use Rattle.std.specs.Prelude.{◌≡◌, true, ◌≤◌, ◌^◌, nat_abs, length};
 ghost use Rattle.answer.specs.Answer.{told};
 ghost use Rattle.laws.specs.Store.{laid};
