@@ -7,10 +7,9 @@ use Prim.Native.Nat.{◌+◌, ◌≤◌}
 use Rattle.plane.proofs.bounds_of.Goals as goal
 use Rattle.plane.proofs.bounds_of.Lts as lts
 use Rattle.plane.proofs.bounds_of.Reads as reads
-use Rattle.plane.proofs.bounds_of.Tie as tie
 
 -- past the test the tile lies in the largest plane
-inside : (c : lts.Else1 tie.the-claims reads.Pre reads.Post) → let t = c.args.t in (t.x + t.ticket.w ≤ 256) × (t.y + t.ticket.h ≤ 256)
+inside : (c : lts.Else1 reads.Pre reads.Post) → let t = c.args.t in (t.x + t.ticket.w ≤ 256) × (t.y + t.ticket.h ≤ 256)
 inside c = c.requires (ap not (ne_eqb _ _ c.if-t-eq0.false))
 
 pub returns-then-t-eq0 : goal.returns-then-t-eq0

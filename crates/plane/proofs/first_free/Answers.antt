@@ -18,17 +18,17 @@ loop-i-init c = (refl, omega arith)
 pub returns-then-p-i-eq0 : goal.returns-then-p-i-eq0
 returns-then-p-i-eq0 c =
     let l = c.loop-i in
-    smallest_here 16 l.i (is_free c.args.t1) (omega arith) (ap (λ (b : Bool). not (not b)) (eq-eqb _ _ c.if-p-i-eq0.true))
+    smallest_here 16 l.i (is_free c.args.p) (omega arith) (ap (λ (b : Bool). not (not b)) (eq-eqb _ _ c.if-p-i-eq0.true))
     ∙ sym l.invariant.0
 
 pub loop-i-preserved : goal.loop-i-preserved
 loop-i-preserved c =
     let l = c.loop-i in (
       l.invariant.0
-          ∙ smallest_next 16 l.i (is_free c.args.t1) (omega arith)
+          ∙ smallest_next 16 l.i (is_free c.args.p) (omega arith)
           (ap (λ (b : Bool). not (not b)) (ne_eqb _ _ c.if-p-i-eq0.false)),
       omega arith,
     )
 
 pub returns : goal.returns
-returns c = let l = c.loop-i in smallest_none 16 l.i (is_free c.args.t1) (omega arith) ∙ sym l.invariant.0
+returns c = let l = c.loop-i in smallest_none 16 l.i (is_free c.args.p) (omega arith) ∙ sym l.invariant.0

@@ -10,7 +10,7 @@ use Rattle.plane.proofs.is_clear.Given as goal
 
 abbrev pub invariant-loop-k : goal.invariant-loop-k
 invariant-loop-k l =
-    (l.clear ≡ every l.k (λ l.k. clear_at (suc l.k) (bounds_in l.lefts l.rights l.tops l.bottoms))) × (l.k ≤ 15)
+    (l.clear ≡ every l.k (λ k. clear_at (suc k) (bounds_in l.lefts l.rights l.tops l.bottoms))) × (l.k ≤ 15)
 
 abbrev pub decreases-loop-k : goal.decreases-loop-k
 decreases-loop-k l = 15 - l.k

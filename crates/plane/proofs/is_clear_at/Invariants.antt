@@ -10,7 +10,7 @@ use Rattle.plane.proofs.is_clear_at.Given as goal
 
 abbrev pub invariant-loop-i : goal.invariant-loop-i
 invariant-loop-i l =
-    let b = bounds_in l.lefts l.rights l.tops l.bottoms in (l.clear ≡ every l.i (λ l.i. not (meet (b l.i) (b (l.i + l.k))))) × (l.i ≤ 16)
+    let b = bounds_in l.lefts l.rights l.tops l.bottoms in (l.clear ≡ every l.i (λ i. not (meet (b i) (b (i + l.k))))) × (l.i ≤ 16)
 
 abbrev pub decreases-loop-i : goal.decreases-loop-i
 decreases-loop-i l = 16 - l.i

@@ -22,12 +22,6 @@ answered c =
     c.open_outcome-outcome.ensures
     ∙ ap (λ (t : Tile). open_answer a.plane t a.residuals.now (length a.scratch.now) (length a.output.now)) c.new_tile-t.ensures
 
--- accepted
-known : (c : goal.In-Done-2) →
-    let a = c.args in
-    OpenKnown a.plane (new_tile a.site) a.residuals.now (length a.scratch.now) (length a.output.now) c.in-Done.n
-known c = open_known _ _ _ _ _ _ (sym (ap told c.in-Done.is) ∙ answered c.before)
-
 pub returns-in_default : goal.returns-in_default
 unfolding opening
 returns-in_default c =
@@ -35,12 +29,12 @@ returns-in_default c =
     as_lent (with_tile p (first_free p) _) p (answered c.before) c.in_default.is
 
 pub with_tile-requires : goal.with_tile-requires
-with_tile-requires c = let k = known c.before in omega (arith, k.number, k.small)
+with_tile-requires c = let k = open_known _ _ _ _ _ _ (sym (ap told c.in-Done.is) ∙ answered c.before) in omega (arith, k.number, k.small)
 
 pub returns : goal.returns
 unfolding opening
 returns c =
-    let at = c.before.before in
-    let p = at.args.plane in
-    changed (with_tile p (first_free p) _) p (sym (ap told c.in-Done.is) ∙ answered at) refl
-    (c.with_tile.ensures ∙ ap₂ (with_tile p) (known c.before.before).number at.new_tile-t.ensures)
+    let p = c.args.plane in
+    let e = sym (ap told c.in-Done.is) ∙ answered c.before.before in
+    changed (with_tile p (first_free p) _) p e refl
+    (c.with_tile.ensures ∙ ap₂ (with_tile p) (open_known _ _ _ _ _ _ e).number c.new_tile-t.ensures)

@@ -14,12 +14,12 @@ use Rattle.plane.proofs.plane_ok.Invariants.{is_ok}
 use Rattle.plane.proofs.plane_ok.Goals as goal
 
 -- past the first test
-sides : (c : goal.Else-not-sides_ok) → let p = c.args.t1 in sides_ok p.w p.h ≡ true
+sides : (c : goal.Else-not-sides_ok) → let p = c.args.p in sides_ok p.w p.h ≡ true
 sides c = sym c.sides_ok.ensures ∙ c.if-not-sides_ok.false
 
 -- and past the second
 tile : (c : goal.Else-not-tile_ok) →
-    let at = c.before.before.before.before in is_ok at.args.t1 at.loop-i.i ≡ true
+    let at = c.before.before.before.before in is_ok at.args.p at.loop-i.i ≡ true
 tile c = sym c.tile_ok.ensures ∙ c.if-not-tile_ok.false
 
 pub returns-then-not-sides_ok : goal.returns-then-not-sides_ok
@@ -33,7 +33,7 @@ pub returns-then-not-tile_ok : goal.returns-then-not-tile_ok
 unfolding plane_ok
 returns-then-not-tile_ok c =
     let at = c.before.before.before.before in
-    let p = at.args.t1 in
+    let p = at.args.p in
     let e = sym c.tile_ok.ensures ∙ c.if-not-tile_ok.true in
     rw (every_not 16 (is_ok p) at.loop-i.i (omega arith) e, and-false (sides_ok p.w p.h))
 
@@ -44,7 +44,7 @@ pub loop-i-preserved : goal.loop-i-preserved
 loop-i-preserved c =
     let at = c.before.before.before.before.before in
     let l = at.loop-i in (
-      every_turn (is_ok at.args.t1) l.i (sym (tile c.before)) l.invariant.0,
+      every_turn (is_ok at.args.p) l.i (sym (tile c.before)) l.invariant.0,
       bounded_turn l.invariant.1 c.bounds_of-b.ensures,
       omega arith,
     )
@@ -68,7 +68,7 @@ pub returns : goal.returns
 unfolding plane_ok
 returns c =
     let at = c.before.before.before.before.before.before in
-    let p = at.args.t1 in
+    let p = at.args.p in
     let n : at.loop-i.i ≡ 16 = omega arith in
     let ok : true ≡ every 16 (is_ok p) = rw n at at.loop-i.invariant.0 in
     c.is_clear.ensures ∙ clear_is (rw n at at.loop-i.invariant.1) ∙ ap₂ ◌&&◌ (sym (sides at.before)) (ap (λ (x : Bool). x && apart p) ok)

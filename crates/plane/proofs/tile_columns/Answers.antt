@@ -24,18 +24,14 @@ bounds-plane-n c = number c
 
 pub returns-in_default-result : goal.returns-in_default-result
 returns-in_default-result c =
-    let seen = c.before.before in
-    let at = seen.before.before.before.before in
-    columns_refused _ _ _ _ _ _ at.tile_outcome-outcome.ensures at.in-Done.is seen.column_batch-done.result seen.column_batch-done.ensures
+    columns_refused _ _ _ _ _ _ c.tile_outcome-outcome.ensures c.in-Done.is c.column_batch-done.result c.column_batch-done.ensures
     c.in_default-result.is
 
 pub with_tile-requires : goal.with_tile-requires
-with_tile-requires c = number c.before.before.before.before.before.before.before.before
+with_tile-requires c = (named c.tile_outcome-outcome.ensures c.in-Done.is).small
 
 pub returns : goal.returns
 returns c =
-    let seen = c.before.before.before.before.before in
-    let at = seen.before.before.before.before in
-    let a = at.args in
-    columns_done _ _ _ _ _ _ at.tile_outcome-outcome.ensures at.in-Done.is seen.column_batch-done.result seen.column_batch-done.ensures
-    c.in-Done-result.is (c.with_tile.ensures ∙ ap (with_tile a.t1 a.n) c.with_ticket.ensures)
+    let a = c.args in
+    columns_done _ _ _ _ _ _ c.tile_outcome-outcome.ensures c.in-Done.is c.column_batch-done.result c.column_batch-done.ensures
+    c.in-Done-result.is (c.with_tile.ensures ∙ ap (with_tile a.plane a.n) c.with_ticket.ensures)

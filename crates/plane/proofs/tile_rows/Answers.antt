@@ -10,67 +10,46 @@ use Rattle.plane.proofs.Rows.{RowsAsked, plane_small, rows_short, rows_refused, 
 use Rattle.plane.proofs.Ways.{named, not_named}
 use Rattle.plane.proofs.tile_rows.Goals as goal
 
--- past the first test
-known : (c : goal.In-Done) → let a = c.args in TileKnown a.t1 a.room a.n c.in-Done.field-0
-known c = named c.tile_outcome-outcome.ensures c.in-Done.is
-
--- accepted
-asked : (c : goal.In-Done-result) →
-    let a = c.args in
-    RowsAsked a.t1 a.n a.start a.lines (length a.output.now)
-asked c =
-    let seen = c.before.before in
-    let past = seen.before.before.before.before.before in
-    rows_asked _ _ _ _ _ _ _ past.tile_outcome-outcome.ensures past.in-Done.is past.if-output-plane.false _
-    seen.preview_rows-result.ensures c.in-Done-result.is
-
 pub returns-in_default : goal.returns-in_default
 unfolding rows_in
 returns-in_default c = not_named _ c.tile_outcome-outcome.ensures _ _ c.in_default.is
 
 pub overflow_mul-plane : goal.overflow_mul-plane
-overflow_mul-plane c = omega (arith, plane_small (known c))
+overflow_mul-plane c = omega (arith, plane_small (named c.tile_outcome-outcome.ensures c.in-Done.is))
 
 pub returns-then-output-plane : goal.returns-then-output-plane
 returns-then-output-plane c =
     rows_short _ _ _ _ _ _ _ c.tile_outcome-outcome.ensures c.in-Done.is c.if-output-plane.true
 
 pub offset_bounds-plane-n : goal.offset_bounds-plane-n
-offset_bounds-plane-n c = omega (arith, (known c.before).small)
+offset_bounds-plane-n c = omega (arith, (named c.tile_outcome-outcome.ensures c.in-Done.is).small)
 
 pub bounds-plane-n : goal.bounds-plane-n
-bounds-plane-n c = (known c.before).small
+bounds-plane-n c = (named c.tile_outcome-outcome.ensures c.in-Done.is).small
 
 pub returns-in_default-result : goal.returns-in_default-result
 returns-in_default-result c =
-    let seen = c.before.before in
-    let past = seen.before.before.before.before.before in
-    rows_refused _ _ _ _ _ _ _ past.tile_outcome-outcome.ensures past.in-Done.is past.if-output-plane.false
-    seen.preview_rows-result.result seen.preview_rows-result.ensures c.in_default-result.is
+    rows_refused _ _ _ _ _ _ _ c.tile_outcome-outcome.ensures c.in-Done.is c.if-output-plane.false
+    c.preview_rows-result.result c.preview_rows-result.ensures c.in_default-result.is
 
 pub overflow_add-t : goal.overflow_add-t
-overflow_add-t c = omega (arith, (asked c.before.before).low)
+overflow_add-t c = omega (arith, (rows_asked _ _ _ _ _ _ _ c.tile_outcome-outcome.ensures c.in-Done.is c.if-output-plane.false _ c.preview_rows-result.ensures c.in-Done-result.is).low)
 
 pub put_lines-requires : goal.put_lines-requires
 put_lines-requires c =
-    let told = c.before.before.before in
-    let k = asked told in (k.some, omega (arith, k.long, told.preview_rows-result.auto.preview), k.across, k.down)
+    let k = rows_asked _ _ _ _ _ _ _ c.tile_outcome-outcome.ensures c.in-Done.is c.if-output-plane.false _ c.preview_rows-result.ensures c.in-Done-result.is in (k.some, omega (arith, k.long, c.preview_rows-result.auto.preview), k.across, k.down)
 
 pub with_batch-after-requires : goal.with_batch-after-requires
-with_batch-after-requires c = (asked c.before.before.before.before.before).few
+with_batch-after-requires c = (rows_asked _ _ _ _ _ _ _ c.tile_outcome-outcome.ensures c.in-Done.is c.if-output-plane.false _ c.preview_rows-result.ensures c.in-Done-result.is).few
 
 pub with_tile-requires : goal.with_tile-requires
-with_tile-requires c =
-    (known c.before.before.before.before.before.before.before.before.before.before.before.before.before.before.before.before).small
+with_tile-requires c = (named c.tile_outcome-outcome.ensures c.in-Done.is).small
 
 pub returns : goal.returns
 returns c =
-    let told = c.before.before.before.before.before.before.before.before in
-    let seen = told.before.before in
-    let past = seen.before.before.before.before.before in
-    let a = past.args in
-    rows_done _ _ _ _ _ _ _ past.tile_outcome-outcome.ensures past.in-Done.is past.if-output-plane.false
-    seen.preview_rows-result.result seen.preview_rows-result.ensures told.in-Done-result.is
+    let a = c.args in
+    rows_done _ _ _ _ _ _ _ c.tile_outcome-outcome.ensures c.in-Done.is c.if-output-plane.false
+    c.preview_rows-result.result c.preview_rows-result.ensures c.in-Done-result.is
     (c.with_tile.ensures
-    ∙ ap (with_tile a.t1 a.n) (c.with_ticket.ensures ∙ ap (with_ticket (tile_at a.t1 a.n)) c.with_batch-after.ensures))
+    ∙ ap (with_tile a.plane a.n) (c.with_ticket.ensures ∙ ap (with_ticket (tile_at a.plane a.n)) c.with_batch-after.ensures))
     c.put_lines.ensures
