@@ -1,4 +1,6 @@
 // A pass as a call, and its plain form: a line at a time, one butterfly for every side of the DCT, and the dense ADST.
+#![tactic(auto)]
+
 ghost use Rattle.std.specs.Prelude.{◌≡◌, true, length};
 ghost use Rattle.laws.specs.Store.{stores};
 ghost use Rattle.answer.specs.Answer.{told};

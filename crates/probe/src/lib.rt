@@ -1,4 +1,6 @@
 // What the comparison with the Rust looks at and the C interface leaves out: the kernel tables, the shifts, the plain pass and the lane passes.
+#![tactic(auto)]
+
 ghost use Rattle.std.specs.Prelude.{◌≡◌, length};
 ghost use Rattle.kernels.specs.Adst.{adst16, adst4, adst8};
 ghost use Rattle.kernels.specs.Dct.{dct32, dct_rows};
