@@ -1,4 +1,6 @@
 // The batches of `tickets` on one job ticket that is lent and marked where it stands.
+#![tactic(auto)]
+
 ghost use Rattle.std.specs.Prelude.{◌≡◌, true, false};
 ghost use Rattle.tickets.specs.Batch.{batch_of, batch};
 ghost use Rattle.dispatch.specs.Lent.{lent};
