@@ -102,8 +102,8 @@ fn put_block(
 
 // The blocks of bytes that are right, put into the lent buffers.
 fn fill(bytes: &[u8], count: usize, numbers: &mut [u32], sides: &mut [usize], levels: &mut [i32])
-    requires bytes_value { counted (parse bytes.now) ≡ answers count }
-    requires count_in_bounds { (count ≤ length numbers.old) × (2 * count ≤ length sides.old) × (places_of (list_found (parse bytes.now)) ≤ length levels.old) }
+    requires bytes_right { counted (parse bytes.now) ≡ answers count }
+    requires room { (count ≤ length numbers.old) × (2 * count ≤ length sides.old) × (places_of (list_found (parse bytes.now)) ≤ length levels.old) }
     ensures numbers_after { numbers.new ≡ over (numbers_of (list_found (parse bytes.now))) numbers.old }
     ensures sides_after { sides.new ≡ over (sides_of (list_found (parse bytes.now))) sides.old }
     ensures levels_after { levels.new ≡ over (levels_of (list_found (parse bytes.now))) levels.old }

@@ -1,5 +1,5 @@
 -- What the writer answers by its tests, and what an accepted call knows. Assumes nothing.
-use mathlib.Core.Bool.{Bool, true, false, not, ◌||◌, or_true}
+use mathlib.Core.Bool.{Bool, true, false, not, ◌||◌, or-true}
 use mathlib.Core.List.{List, [], ◌∷◌}
 use mathlib.Core.Path.{◌≡◌, sym, ap, ◌∙◌}
 use Prim.Native.Nat.{ℕ, ◌*◌, ◌/◌, ◌^◌, min, ◌≤◌, ◌<◌}
@@ -42,7 +42,7 @@ module _ (count : ℕ) (numbers sides : List ℕ) (levels : List ℤ) (room : �
   pub short_room : roomy ≡ false → is_short count numbers sides levels room ≡ true
   short_room e =
       ap (λ (b : Bool). (ltb (length numbers) count || ltb (length sides) (2 * count)) || b) (bytes_is ∙ not-false _ e)
-      ∙ or_true (ltb (length numbers) count || ltb (length sides) (2 * count))
+      ∙ or-true (ltb (length numbers) count || ltb (length sides) (2 * count))
 
   pub not_short : few ≡ false → roomy ≡ true → is_short count numbers sides levels room ≡ false
   not_short e f =

@@ -1,5 +1,5 @@
 -- The blocks that lent buffers hold: their records and their bytes, one block after the other. Assumes nothing.
-use mathlib.Core.Bool.{true, false, not, ◌||◌, or_true}
+use mathlib.Core.Bool.{true, false, not, ◌||◌, or-true}
 use mathlib.Core.List.{List, [], ◌∷◌, ◌++◌}
 use mathlib.Core.Path.{◌≡◌, refl, sym, ap, ap₂, ◌∙◌}
 use Prim.Native.Nat.{ℕ, zero, suc, ◌+◌, ◌-◌, ◌*◌, ◌/◌, ◌%◌, ◌≤◌, ◌<◌}
@@ -167,7 +167,7 @@ module _ (levels room place bytes : ℕ) where
   fits_levels h = rw (lt-ltb levels place h)
 
   pub fits_bytes : room < bytes → false ≡ not (ltb levels place || ltb room bytes)
-  fits_bytes h = rw (lt-ltb room bytes h, or_true (ltb levels place))
+  fits_bytes h = rw (lt-ltb room bytes h, or-true (ltb levels place))
 
   pub fits_both : place ≤ levels → bytes ≤ room → true ≡ not (ltb levels place || ltb room bytes)
   fits_both a b = rw (le-ltb levels place a, le-ltb room bytes b)

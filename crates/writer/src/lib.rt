@@ -1,4 +1,6 @@
 // The writer of block records. The crate `format` says what records are.
+#![tactic(auto)]
+
 mod admit;
 mod bytes;
 mod write;

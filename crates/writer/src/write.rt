@@ -16,7 +16,7 @@ use answer::Outcome;
 // A level's bytes put before a place. Gives back where they begin; where the level is 0, there are none, and the four bytes are spoilt.
 fn put_level(l: i32, out: &mut [u8], end: usize) -> usize
     requires { (4 ≤ end) × (end ≤ length out.old) }
-    ensures l_value { result + length (bytes_for l) ≡ end }
+    ensures starts { result + length (bytes_for l) ≡ end }
     ensures out_unchanged { take (end - 4) out.new ≡ take (end - 4) out.old }
     ensures out_after { drop result out.new ≡ bytes_for l ++ drop end out.old }
 {
@@ -51,7 +51,7 @@ fn map_byte(levels: &[i32], place: usize) -> u8
 // The bytes of the eight levels from a place on, put before a place. Gives back where they begin.
 fn put_eight(levels: &[i32], place: usize, out: &mut [u8], end: usize) -> usize
     requires { (place + 8 ≤ length levels.now) × (4 + length (listed 8 (level_from levels.now place)) ≤ end) × (end ≤ length out.old) }
-    ensures place_value { result + length (listed 8 (level_from levels.now place)) ≡ end }
+    ensures starts { result + length (listed 8 (level_from levels.now place)) ≡ end }
     ensures out_unchanged { take (result - 4) out.new ≡ take (result - 4) out.old }
     ensures out_after { drop result out.new ≡ listed 8 (level_from levels.now place) ++ drop end out.old }
 {
@@ -71,7 +71,7 @@ fn put_eight(levels: &[i32], place: usize, out: &mut [u8], end: usize) -> usize
 // The same of the n levels from a place on.
 fn put_listed(levels: &[i32], place: usize, n: usize, out: &mut [u8], end: usize) -> usize
     requires { (n % 8 ≡ 0) × (place + n ≤ length levels.now) × (4 + length (listed n (level_from levels.now place)) ≤ end) × (end ≤ length out.old) }
-    ensures place_value { result + length (listed n (level_from levels.now place)) ≡ end }
+    ensures starts { result + length (listed n (level_from levels.now place)) ≡ end }
     ensures out_unchanged { take (result - 4) out.new ≡ take (result - 4) out.old }
     ensures out_after { drop result out.new ≡ listed n (level_from levels.now place) ++ drop end out.old }
 {
@@ -115,8 +115,8 @@ fn put_record(
     out: &mut [u8],
     at: usize,
 ) -> usize
-    requires w_value { (is_side w ≡ true) × (is_side h ≡ true) × (place + w * h ≤ length levels.now) }
-    requires place_in_bounds { at + length (record_of (block_from number w h levels.now place)) ≤ length out.old }
+    requires block_right { (is_side w ≡ true) × (is_side h ≡ true) × (place + w * h ≤ length levels.now) }
+    requires room { at + length (record_of (block_from number w h levels.now place)) ≤ length out.old }
     ensures value { result ≡ at + length (record_of (block_from number w h levels.now place)) }
     ensures out_after { out.new ≡ pasted out.old at (record_of (block_from number w h levels.now place)) }
 {
@@ -139,8 +139,8 @@ fn put_records(
     levels: &[i32],
     out: &mut [u8],
 ) -> usize
-    requires count_in_bounds { (count ≤ length numbers.now) × (2 * count ≤ length sides.now) × (every (2 * count) (λ i. is_side (get_or sides.now i 0)) ≡ true) }
-    requires count_in_bounds_2 { (place_at sides.now count ≤ length levels.now) × (length_to sides.now levels.now count ≤ length out.old) }
+    requires blocks_lent { (count ≤ length numbers.now) × (2 * count ≤ length sides.now) × (every (2 * count) (λ i. is_side (get_or sides.now i 0)) ≡ true) }
+    requires room { (place_at sides.now count ≤ length levels.now) × (length_to sides.now levels.now count ≤ length out.old) }
     ensures value { result ≡ length (bytes_of (blocks_in count numbers.now sides.now levels.now)) }
     ensures out_after { out.new ≡ over (bytes_of (blocks_in count numbers.now sides.now levels.now)) out.old }
 {
