@@ -1,10 +1,11 @@
 -- The list of blocks that buffers hold, both ways: the buffers' numbers from the list, and the list from the buffers. Assumes nothing.
-use mathlib.Core.Bool.{true}
+use mathlib.Core.Bool.{true, ◌&&◌}
 use mathlib.Core.List.{List, [], ◌∷◌, ◌++◌, append_assoc}
 use mathlib.Core.Path.{◌≡◌, refl, sym, ap, ap₂, ◌∙◌}
 use Prim.Native.Nat.{ℕ, zero, suc, ◌+◌, ◌*◌, ◌≤◌}
 use native.Mathlib.Numerals.{add-one}
 use native.Mathlib.Omega.{arith}
+use lib.Dec.{leb}
 use lib.IntN.{ℤ}
 use lib.ListN.{length, get_or, take, drop, length-append}
 use lib.Seq.{take-suc, take-add, take_at, drop_at, drop-drop}
@@ -15,7 +16,7 @@ use Rattle.laws.specs.Store.{tab}
 use Rattle.laws.proofs.Sum.{sum_of_more}
 use Rattle.laws.specs.Sum.{sum_ℕ, sum_of}
 use Rattle.format.proofs.Record.{whole}
-use Rattle.format.specs.Format.{Block, are_blocks}
+use Rattle.format.specs.Format.{Block, is_block, are_blocks}
 use Rattle.look.specs.Look.{area_of, places_of}
 use Rattle.reader.specs.Reading.{numbers_of, sides_of, levels_of}
 use Rattle.writer.specs.Writing.{block_from, places_at, place_at, block_at, blocks_in}
@@ -106,5 +107,5 @@ pub levels_many : (low : ℕ) (bs : List Block) → are_blocks low bs ≡ true �
 unfolding are_blocks levels_of sum_of
 levels_many low [] e = refl
 levels_many low (b ∷ bs) e =
-    let u = both _ _ e in
-    omega (arith, length-append b.levels (levels_of bs), (whole b (both _ _ u.0).0).long, levels_many (b.number + 1) bs u.1)
+    let u = both (is_block b && leb low b.number) (are_blocks (b.number + 1) bs) e in
+    omega (arith, length-append b.levels (levels_of bs), (whole b (both (is_block b) (leb low b.number) u.0).0).long, levels_many (b.number + 1) bs u.1)

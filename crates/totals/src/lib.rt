@@ -1,4 +1,6 @@
 // The totals of a record file: its blocks, its nonzero levels, and the sum of their magnitudes. Nothing is unpacked.
+#![tactic(auto)]
+
 ghost use Rattle.std.specs.Prelude.{◌≡◌};
 ghost use Rattle.totals.specs.Totals.{reported, report_of};
 

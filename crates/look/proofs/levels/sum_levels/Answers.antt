@@ -25,16 +25,15 @@ overflow_add-upper c = let w = c.magnitude_of-magnitude.type_inv in omega (arith
 pub loop-i-preserved : goal.loop-i-preserved
 unfolding listed_in
 loop-i-preserved c =
-    let at-loop = c.before.before.before.before in
-    let a = at-loop.args in
+    let a = c.args in
     let s = a.s.now in
-    let i = at-loop.loop-i.i in
+    let i = c.loop-i.i in
     let word : c.number_at.result ≡ number_at s (a.list + 4 * i) = c.number_at.ensures in
     let level = c.magnitude_of-magnitude.ensures
-    ∙ ap (λ (n : ℕ). nat_abs (of_word n)) (word ∙ ap (λ (k : ℕ). number_at s (k + 4 * i)) at-loop.requires.0) in
+    ∙ ap (λ (n : ℕ). nat_abs (of_word n)) (word ∙ ap (λ (k : ℕ). number_at s (k + 4 * i)) c.requires.0) in
     let m = c.magnitude_of-magnitude.type_inv in
     let x = c.wrapping_sub_u32-reach.type_inv in
-    (summed_more at-loop.loop-i.invariant.0 level (omega arith) (omega arith) c.wrapping_sub_u32-reach.ensures.value, omega arith)
+    (summed_more c.loop-i.invariant.0 level (omega arith) (omega arith) c.wrapping_sub_u32-reach.ensures.value, omega arith)
 
 pub overflow_add-result : goal.overflow_add-result
 overflow_add-result c = omega (arith, c.loop-i.invariant.0.sum.lower_most, c.loop-i.invariant.0.sum.upper_most)

@@ -26,7 +26,6 @@ shape_of-levels c = stored_length c.loop-i.invariant.0
 
 pub returns : goal.returns
 returns c =
-    let start = c.before.before in
-    let a = start.args in
+    let a = c.args in
     let done : c.loop-i.i ≡ 8 = omega arith in
-    stored_all {n = 8} c.loop-i.invariant.0 done ∙ stores_laid a.levels.now a.place 8 start.requires (pos 0) (λ k. pos 0)
+    stored_all {n = 8} c.loop-i.invariant.0 done ∙ stores_laid a.levels.now a.place 8 c.requires (pos 0) (λ k. pos 0)

@@ -14,9 +14,8 @@ overflow_mul-number_at c = record { fits = omega (arith, bit_times c.number_at.r
 
 pub returns : goal.returns
 returns c =
-    let start = c.before.before.before.before in
-    let a = start.args in
+    let a = c.args in
     let at = c.lower-from.ensures in
     to_z-of_z {w = w32} (record { sfits = c.of_word.type_inv }) ∙ c.of_word.ensures
     ∙ ap (λ (n : ℕ). of_word (n * a.bit)) (c.number_at.ensures ∙ ap (number_at a.s.now) at)
-    ∙ picked a.s.now a.at (length a.s.now - 4) a.bit start.requires.0 (omega arith)
+    ∙ picked a.s.now a.at (length a.s.now - 4) a.bit c.requires.0 (omega arith)

@@ -12,8 +12,7 @@ loop-i-init c = (refl, omega arith)
 
 pub loop-i-preserved : goal.loop-i-preserved
 loop-i-preserved c =
-    let at = c.before.before.before in
-    (every_turn (tested at.args.sides.now) at.loop-i.i c.is_side-ok.ensures at.loop-i.invariant.0, omega arith)
+    (every_turn (tested c.args.sides.now) c.loop-i.i c.is_side-ok.ensures c.loop-i.invariant.0, omega arith)
 
 pub returns : goal.returns
 returns c =

@@ -15,8 +15,7 @@ loop-k-init c = (refl, omega arith)
 
 pub loop-k-preserved : goal.loop-k-preserved
 loop-k-preserved c =
-    let at = c.before.before.before in
-    (every_turn (tested at.args.numbers.now) at.loop-k.k refl at.loop-k.invariant.0, omega arith)
+    (every_turn (tested c.args.numbers.now) c.loop-k.k refl c.loop-k.invariant.0, omega arith)
 
 pub returns : goal.returns
 returns c =

@@ -27,9 +27,8 @@ bounds-out-to c = omega (arith, stored_length c.loop-j.invariant.0)
 
 pub loop-j-preserved : goal.loop-j-preserved
 loop-j-preserved c =
-    let l = c.before.before in
-    let a = l.args in
-    (stored_turn l.loop-j.invariant.0 refl (c.map_byte-byte.ensures ∙ byte_is a.levels.now a.place l.loop-j.j), omega arith)
+    let a = c.args in
+    (stored_turn c.loop-j.invariant.0 refl (c.map_byte-byte.ensures ∙ byte_is a.levels.now a.place c.loop-j.j), omega arith)
 
 pub shape_of-out : goal.shape_of-out
 shape_of-out c = stored_length c.loop-j.invariant.0
@@ -37,8 +36,7 @@ shape_of-out c = stored_length c.loop-j.invariant.0
 pub returns : goal.returns
 unfolding map_of
 returns c =
-    let s = c.before.before.before in
-    let a = s.args in
+    let a = c.args in
     let g = map_byte a.levels.now a.place in
     let done : c.loop-j.j ≡ a.n / 8 = omega arith in
-    stored_all {n = a.n / 8} c.loop-j.invariant.0 done ∙ stores_laid a.out.now a.at (a.n / 8) s.requires.2 0 g ∙ pasted_laid a.out.now a.at (a.n / 8) g
+    stored_all {n = a.n / 8} c.loop-j.invariant.0 done ∙ stores_laid a.out.now a.at (a.n / 8) c.requires.2 0 g ∙ pasted_laid a.out.now a.at (a.n / 8) g
