@@ -1,5 +1,7 @@
 // The coefficients and levels of a block, from text to text. Standard input has these words: w, h, column kind, row kind, step, factor,
 // threshold, dead zone, and then the residuals, row by row.
+#![tactic(auto)]
+
 mod decimal;
 mod input;
 mod output;
@@ -9,10 +11,19 @@ ghost use Rattle.forward.specs.Sized.{Sized};
 
 use answer::Outcome;
 use quant::Settings;
+use std::io;
+use std::io::Read;
 use text::print_text;
 
 // The levels of a block's coefficients.
-fn quantize(w: usize, h: usize, step: u32, settings: Settings, coefficients: &[i32; 1024])
+fn quantize(
+    rt: &impl Print,
+    w: usize,
+    h: usize,
+    step: u32,
+    settings: Settings,
+    coefficients: &[i32; 1024],
+) -> io::Result<()>
     requires { Sized w h }
 {
     let n = w * h;
@@ -29,15 +40,20 @@ fn quantize(w: usize, h: usize, step: u32, settings: Settings, coefficients: &[i
         &mut levels,
         &mut magnitudes,
     );
-    print_text(b"levels\n");
+    print_text(rt, b"levels\n")?;
     match outcome {
-        Outcome::Done(_) => output::print_levels(w, h, &levels),
-        Outcome::Refused(why) => output::print_refused(why),
+        Outcome::Done(_) => output::print_levels(rt, w, h, &levels),
+        Outcome::Refused(why) => output::print_refused(rt, why),
     }
 }
 
 // Both tables, or the refusal.
-fn transform(sizes: [u32; 5], settings: Settings, residuals: &[i32]) {
+fn transform(
+    rt: &impl Print,
+    sizes: [u32; 5],
+    settings: Settings,
+    residuals: &[i32],
+) -> io::Result<()> {
     let w = sizes[0] as usize;
     let h = sizes[1] as usize;
     let mut scratch = [0i32; 1024];
@@ -53,50 +69,48 @@ fn transform(sizes: [u32; 5], settings: Settings, residuals: &[i32]) {
     );
     match outcome {
         Outcome::Done(_) => {
-            print_text(b"coefficients\n");
-            output::print_coefficients(w, h, &coefficients);
-            quantize(w, h, sizes[4], settings, &coefficients);
+            print_text(rt, b"coefficients\n")?;
+            output::print_coefficients(rt, w, h, &coefficients)?;
+            quantize(rt, w, h, sizes[4], settings, &coefficients)
         }
-        Outcome::Refused(why) => output::print_refused(why),
+        Outcome::Refused(why) => output::print_refused(rt, why),
     }
 }
 
 // Reads the words and does the work, or says which word is wrong.
-fn run(words: &[u8]) {
+fn run(rt: &impl Print, words: &[u8]) -> io::Result<()> {
     let sizes = input::read_sizes(words);
     if sizes.wrong > 0 {
-        output::print_wanted(sizes.wrong, b"a whole number from 0 to 4294967295");
-        return;
+        return output::print_wanted(rt, sizes.wrong, b"a whole number from 0 to 4294967295");
     }
     let settings = input::read_settings(words, sizes.next);
     if settings.wrong > 0 {
-        output::print_wanted(
+        return output::print_wanted(
+            rt,
             5 + settings.wrong,
             b"a decimal number of at most 7 digits, such as 0.375",
         );
-        return;
     }
     let mut residuals = [0i32; 1024];
     let got = input::read_residuals(words, settings.next, &mut residuals);
     if got.wrong > 0 {
-        output::print_wanted(
+        return output::print_wanted(
+            rt,
             8 + got.wrong,
             b"one of at most 1024 residuals, a whole number",
         );
-        return;
     }
     let values = sizes.values;
     let quantizer = settings.values;
     let count = got.count;
-    transform(values, quantizer, &residuals[..count]);
+    transform(rt, values, quantizer, &residuals[..count])
 }
 
-fn main() {
-    let mut words = io::large_buffer();
-    let n = io::read_full(0, &mut words);
+fn main(rt: HostRuntime) -> io::Result<()> {
+    let mut words = Vec::new(rt.alloc());
+    let n = rt.reader().take(65536).read_to_end(&mut words)?;
     if n == 65536 {
-        print_text(b"the input should be shorter than 65536 bytes\n");
-        return;
+        return print_text(&rt, b"the input should be shorter than 65536 bytes\n");
     }
-    run(&words[..n]);
+    run(&rt, words.as_slice())
 }

@@ -1,4 +1,6 @@
 // Whole numbers as text, for the programs: read from bytes, and written to standard output.
+#![tactic(auto)]
+
 mod print;
 mod read;
 

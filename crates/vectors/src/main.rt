@@ -4,10 +4,15 @@
 //     cd compare && cargo run --release -- vectors > ../crates/vectors/data/answers
 // A line is a record: decimal whole numbers, one space apart. Its kind, how many numbers follow, and these; compare/src/vectors/mod.rs has
 // a table of them by kind.
+#![tactic(auto)]
+
 mod quantizer;
 mod record;
 mod transforms;
 
+use std::fs;
+use std::io;
+use std::io::Read;
 use text::print_text;
 
 // Whether the library gives what the record says, and the record says nothing else.
@@ -26,49 +31,42 @@ fn is_same(kind: u64, numbers: &[u64]) -> bool {
     }
 }
 
-fn print_differs(count: u64, kind: u64) {
-    print_text(b"record ");
-    text::print_in_column(false, count, 0);
-    print_text(b", of kind ");
-    text::print_in_column(false, kind, 0);
-    print_text(b", differs or can't be read\n");
+fn print_differs(rt: &impl Print, count: u64, kind: u64) -> io::Result<()> {
+    print_text(rt, b"record ")?;
+    text::print_in_column(rt, false, count, 0)?;
+    print_text(rt, b", of kind ")?;
+    text::print_in_column(rt, false, kind, 0)?;
+    print_text(rt, b", differs or can't be read\n")
 }
 
-fn print_count(count: u64) {
-    text::print_in_column(false, count, 0);
-    print_text(b" answers of the Rust, no difference\n");
+fn print_count(rt: &impl Print, count: u64) -> io::Result<()> {
+    text::print_in_column(rt, false, count, 0)?;
+    print_text(rt, b" answers of the Rust, no difference\n")
 }
 
 // Record by record, up to the end or the first difference.
-fn replay(list: &[u8]) {
+fn replay(rt: &impl Print, list: &[u8]) -> io::Result<()> {
     let mut numbers = [0u64; 4608];
     let mut at = 0;
     let mut count: u64 = 0;
     while count < 65536 {
         if text::is_end(list, at) {
-            print_count(count);
-            return;
+            return print_count(rt, count);
         }
         let next = record::read(list, at, &mut numbers);
         count += 1;
         if !(next.ok && is_same(next.kind, &numbers[..next.count])) {
-            print_differs(count, next.kind);
-            return;
+            return print_differs(rt, count, next.kind);
         }
         at = next.end;
     }
-    print_text(b"the list has more than 65536 records\n");
+    print_text(rt, b"the list has more than 65536 records\n")
 }
 
-fn main() {
-    let path = b"answers";
-    let file = os::open_read(path);
-    if file < 0 {
-        os::fail(path);
-        return;
-    }
-    let mut list = [0u8; 655360];
-    let n = io::read_full(file, &mut list);
-    libc::close(file);
-    replay(&list[..n]);
+fn main(rt: HostRuntime) -> io::Result<()> {
+    let mut list = Vec::new(rt.alloc());
+    fs::open(&rt, "answers")?
+        .take(655360)
+        .read_to_end(&mut list)?;
+    replay(&rt, list.as_slice())
 }
