@@ -39,12 +39,12 @@ fn link(root: &Path, name: &str) {
         Some(ready) => PathBuf::from(ready),
         None => {
             prove(root, name);
-            root.join("target/staticlib")
+            root.join("crates").join(name).join("out")
         }
     };
     let archive = folder.join(format!("lib{name}.a"));
     if !archive.exists() {
-        stop(&format!("{} is not there: `rt staticlib {name}` writes it", archive.display()));
+        stop(&format!("{} is not there: `rt lib` in crates/{name} writes it", archive.display()));
     }
     println!("cargo:rerun-if-changed={}", archive.display());
     println!("cargo:rustc-link-search=native={}", folder.display());
@@ -55,12 +55,12 @@ fn link(root: &Path, name: &str) {
 fn prove(root: &Path, name: &str) {
     println!("cargo:rerun-if-changed={}", root.join("crates").display());
     println!("cargo:rerun-if-changed={}", root.join("crates.txt").display());
-    match Command::new("rt").args(["staticlib", name]).current_dir(root).output() {
+    match Command::new("rt").arg("lib").current_dir(root.join("crates").join(name)).output() {
         Err(_) => println!("cargo:warning=rt is not on PATH: lib{name}.a is taken as it is"),
         Ok(run) if run.status.success() => {}
         Ok(run) => {
             let said = [run.stdout, run.stderr].concat();
-            stop(&format!("rt staticlib {name} failed:\n{}", String::from_utf8_lossy(&said)));
+            stop(&format!("rt lib failed in crates/{name}:\n{}", String::from_utf8_lossy(&said)));
         }
     }
 }

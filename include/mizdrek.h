@@ -1,6 +1,6 @@
 /*
- * Mizdrek: forward transforms and quantizer levels for AV2 stills. Link target/staticlib/libmizdrek.a, which
- * `rt staticlib mizdrek` writes.
+ * Mizdrek: forward transforms and quantizer levels for AV2 stills. Link crates/mizdrek/out/libmizdrek.a, which
+ * `rt lib` in crates/mizdrek writes.
  *
  * Answers. A call returns a signed number: 0 or more is its answer; below 0 it is minus the number of a refusal (see
  * mizdrek_refusal). Where several refusals apply, the lowest number is returned; the calls on a plane, the reader and the
