@@ -1,4 +1,6 @@
 // A block: columns, then rows, then the 5793 / 4096 rule where the logarithms of the sides add to an odd number.
+#![tactic(auto)]
+
 ghost use Rattle.std.specs.Prelude.{◌≡◌, ◌+◌, ◌≤◌, length};
 ghost use Rattle.laws.specs.Store.{laid};
 ghost use Rattle.answer.specs.Answer.{told};

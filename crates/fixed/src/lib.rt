@@ -1,5 +1,7 @@
 // Fixed-point arithmetic on signed 32 bits: sums and products that wrap, the rounding rule and the scaling rule.
 // Each wrapping function folds to one machine instruction.
+#![tactic(auto)]
+
 ghost use Rattle.std.specs.Prelude.{◌≡◌, ◌≤◌, ◌+ℤ◌, ◌-ℤ◌, ◌*ℤ◌};
 ghost use Rattle.laws.specs.Integer.{wrap32};
 ghost use Rattle.fixed.specs.Fixed.{round_shift, scaled};

@@ -1,4 +1,6 @@
 // The transform kernels, as tables. A pass takes its table once and lends it to its loops.
+#![tactic(auto)]
+
 ghost use Rattle.std.specs.Prelude.{◌≡◌};
 ghost use Rattle.kernels.specs.Dct.{dct32, dct_rows};
 ghost use Rattle.kernels.specs.Kernel.{has_kernel};

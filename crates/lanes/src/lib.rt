@@ -1,5 +1,7 @@
 // The fast form of a pass: some lines from a start, one flat function for each side, turned when stored. At side 8 four lines are staged
 // and stored together, so that the compiler works on all four at once.
+#![tactic(auto)]
+
 ghost use Rattle.std.specs.Prelude.{◌≡◌, true, length};
 ghost use Rattle.laws.specs.Store.{stores};
 ghost use Rattle.sizes.specs.Size.{is_side};

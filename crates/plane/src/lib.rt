@@ -1,4 +1,6 @@
 // Two rooms on one frame plane: up to sixteen open tiles, each a block of one room, that share one output.
+#![tactic(auto)]
+
 ghost use Rattle.std.specs.Prelude.{◌≡◌, true, false, ◌+◌, ◌*◌, ◌≤◌, ◌<◌, ltb, length};
 ghost use Rattle.laws.specs.Store.{grid};
 ghost use Rattle.answer.specs.Answer.{told};

@@ -1,4 +1,6 @@
 // A look at the lines of a batch before it is run: they go into a buffer of their own, and the ticket and the work buffers stay as they are.
+#![tactic(auto)]
+
 ghost use Rattle.std.specs.Prelude.{◌≡◌, true, false, length};
 ghost use Rattle.answer.specs.Answer.{told};
 ghost use Rattle.tickets.specs.Batch.{batch_of, line_length};

@@ -1,4 +1,6 @@
 // The residual limit.
+#![tactic(auto)]
+
 ghost use Rattle.std.specs.Prelude.{◌≡◌, ◌≤◌, length};
 ghost use Rattle.residual.specs.Residual.{in_limit, residuals_ok};
 

@@ -1,4 +1,6 @@
 // Sides, their logarithms, and what a block's size settles: the two shifts and the DC scale.
+#![tactic(auto)]
+
 ghost use Rattle.std.specs.Prelude.{◌≡◌, true};
 ghost use Rattle.answer.specs.Answer.{told};
 ghost use Rattle.sizes.specs.Size.{is_side, log_of, dc_tx_scale};

@@ -1,4 +1,6 @@
 // Tickets: a block done in batches of lines, in any order.
+#![tactic(auto)]
+
 ghost use Rattle.std.specs.Prelude.{◌≡◌, true, false, ◌+◌, ◌≤◌, length};
 ghost use Rattle.answer.specs.Answer.{told};
 ghost use Rattle.tickets.specs.Run.{state_at, step};

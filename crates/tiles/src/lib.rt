@@ -1,4 +1,6 @@
 // The calls on a plane as the C interface makes them: the record is given and comes back by value, and the answer is one signed number.
+#![tactic(auto)]
+
 ghost use Rattle.std.specs.Prelude.{true, false, length};
 ghost use Rattle.tickets.specs.Batch.{batch_of};
 ghost use Rattle.plane.specs.Plane.{site_of, new_tile, opening, closing};

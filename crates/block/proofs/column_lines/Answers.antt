@@ -1,7 +1,6 @@
 -- `block::column_lines` meets its contract. Assumes nothing.
 use mathlib.Core.Path.{ap, ◌∙◌}
 use Prim.Native.Nat.{ℕ}
-use borrow.Author.Rules.{rules}
 use Rattle.lines.specs.Pass.{pass_lines}
 use Rattle.block.specs.Lines.{column_lines}
 use Rattle.block.proofs.LineRoom.{columns_room}

@@ -2,7 +2,6 @@
 use mathlib.Core.Path.{ap₂}
 use mathlib.Core.Bool.{◌&&◌, ◌||◌}
 use lib.Dec.{eqb}
-use borrow.Author.Rules.{rules}
 use Rattle.block.specs.Answer.{has_kinds}
 use Rattle.block.proofs.has_kinds.Goals as goal
 

@@ -3,7 +3,6 @@ use mathlib.Core.Path.{ap₂}
 use Prim.Native.Nat.{ℕ, ◌+◌, ◌%◌}
 use lib.Dec.{eqb}
 use native.Mathlib.Omega.{arith}
-use borrow.Author.Rules.{rules}
 use Rattle.sizes.proofs.Side.{log_bounds}
 use Rattle.block.specs.Block.{is_odd}
 use Rattle.block.proofs.is_odd.Goals as goal

@@ -1,16 +1,6 @@
 -- `block::scale` meets its contract: after i turns i numbers are scaled, and those that follow are as they were. Assumes nothing.
-use mathlib.Core.Path.{refl, ap, ◌∙◌}
 use Prim.Native.Nat.{◌+◌, ◌-◌, ◌≤◌}
-use native.Mathlib.Omega.{arith}
-use borrow.Author.Rules.{rules}
-use mathlib.Core.List.{List}
-use lib.IntN.{ℤ, pos}
-use lib.ListN.{get_or}
-use Rattle.laws.specs.Integer.{wrap32}
-use Rattle.laws.proofs.Store.{Stored, stored_none, stored_turn, stored_all, stored_length, stores_out}
-use Rattle.laws.proofs.Laid.{stores_laid}
-use Rattle.fixed.specs.Fixed.{scaled}
-use Rattle.fixed.proofs.Machine.{read_32}
+use Rattle.laws.proofs.Store.{Stored}
 use Rattle.block.specs.Lines.{scaled_at}
 use Rattle.block.proofs.scale.Given as goal
 

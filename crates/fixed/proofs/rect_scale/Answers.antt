@@ -1,6 +1,5 @@
 -- `fixed::rect_scale` meets its contract. Assumes nothing.
 use mathlib.Core.Path.{◌∙◌, ap}
-use borrow.Author.Rules.{rules}
 use Rattle.laws.specs.Integer.{wrap32}
 use Rattle.fixed.proofs.Machine.{wide, read_32}
 use Rattle.fixed.proofs.Scale.{product_fits, sum_fits, scaled_read}

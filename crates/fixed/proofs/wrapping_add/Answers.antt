@@ -1,6 +1,5 @@
 -- `fixed::wrapping_add` meets its contract: the result of 64 bits does not wrap, and `wrap` reduces it. Assumes nothing.
 use mathlib.Core.Path.{◌∙◌, ap}
-use borrow.Author.Rules.{rules}
 use lib.IntN.{◌+ℤ◌}
 use Rattle.laws.specs.Integer.{wrap32}
 use Rattle.fixed.proofs.Machine.{wide, add_fits, op_fits, op_read, read_32}

@@ -1,6 +1,5 @@
 -- `fixed::wrapping_mul` meets its contract: the result of 64 bits does not wrap, and `wrap` reduces it. Assumes nothing.
 use mathlib.Core.Path.{◌∙◌, ap}
-use borrow.Author.Rules.{rules}
 use lib.IntN.{◌*ℤ◌}
 use Rattle.laws.specs.Integer.{wrap32}
 use Rattle.fixed.proofs.Machine.{wide, mul_fits, op_fits, op_read, read_32}

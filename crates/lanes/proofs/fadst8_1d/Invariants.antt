@@ -1,14 +1,10 @@
 -- `lanes::fadst8_1d` meets its contract: lines are written four at a time, staged in o, and then one at a time. Assumes nothing.
-use mathlib.Core.Path.{◌≡◌, refl, sym, ◌∙◌}
+use mathlib.Core.Path.{◌≡◌}
 use mathlib.Core.List.{List}
-use Prim.Native.Nat.{◌+◌, ◌-◌, ◌≤◌}
-use native.Mathlib.Omega.{arith}
-use borrow.Author.Rules.{rules}
-use lib.Dec.{lit<, lit≤}
+use Prim.Native.Nat.{◌-◌, ◌≤◌}
 use lib.IntN.{ℤ}
 use lib.ListN.{length}
-use Rattle.lines.proofs.Reading.{reading8}
-use Rattle.lines.proofs.Loop.{Written, none_yet, one_more, same_long, next_line, all_lines, some_lines, lines_end, next_staged, one_staged, staged_more}
+use Rattle.lines.proofs.Loop.{Written}
 use Rattle.lanes.proofs.fadst8_1d.Given as goal
 
 -- q lines are staged

@@ -1,9 +1,6 @@
 -- `lanes::fdct16_1d` meets its contract: after i turns i lines are written. Assumes nothing.
 use Prim.Native.Nat.{◌-◌, ◌≤◌}
-use native.Mathlib.Omega.{arith}
-use borrow.Author.Rules.{rules}
-use lib.Dec.{lit<, lit≤}
-use Rattle.lines.proofs.Loop.{Written, none_yet, one_more, same_long, next_line, all_lines}
+use Rattle.lines.proofs.Loop.{Written}
 use Rattle.lanes.proofs.fdct16_1d.Given as goal
 
 abbrev pub invariant-loop-i : goal.invariant-loop-i

@@ -1,9 +1,7 @@
 -- `lanes::fdct32_1d` meets its contract: after i turns i lines are written. Assumes nothing.
-use Prim.Native.Nat.{◌-◌, ◌≤◌}
 use native.Mathlib.Omega.{arith}
-use borrow.Author.Rules.{rules}
 use lib.Dec.{lit<, lit≤}
-use Rattle.lines.proofs.Loop.{Written, none_yet, one_more, same_long, next_line, all_lines}
+use Rattle.lines.proofs.Loop.{none_yet, one_more, same_long, next_line, all_lines}
 use Rattle.lanes.proofs.fdct32_1d.Goals as goal
 
 pub loop-i-init : goal.loop-i-init

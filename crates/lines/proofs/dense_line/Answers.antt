@@ -3,7 +3,6 @@ use mathlib.Core.Path.{sym, subst}
 use mathlib.Core.List.{List, [], ◌∷◌}
 use Prim.Native.Nat.{ℕ, ◌≤◌}
 use native.Mathlib.Omega.{arith}
-use borrow.Author.Rules.{rules}
 use lib.IntN.{ℤ, pos}
 use Rattle.lines.proofs.Line.{line_place, dense_reach, adst_line}
 use Rattle.lines.proofs.dense_line.Goals as goal

@@ -1,7 +1,6 @@
 -- `lines::dense_lines` meets its contract: after i turns i lines are written. Assumes nothing.
-use Prim.Native.Nat.{◌-◌, ◌≤◌}
 use native.Mathlib.Omega.{arith}
-use Rattle.lines.proofs.Loop.{Written, none_yet, one_more, same_long, next_line, all_lines}
+use Rattle.lines.proofs.Loop.{none_yet, one_more, same_long, next_line, all_lines}
 use Rattle.lines.proofs.dense_lines.Goals as goal
 
 pub loop-i-init : goal.loop-i-init

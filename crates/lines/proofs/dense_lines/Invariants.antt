@@ -1,7 +1,6 @@
 -- `lines::dense_lines` meets its contract: after i turns i lines are written. Assumes nothing.
 use Prim.Native.Nat.{◌-◌, ◌≤◌}
-use native.Mathlib.Omega.{arith}
-use Rattle.lines.proofs.Loop.{Written, none_yet, one_more, same_long, next_line, all_lines}
+use Rattle.lines.proofs.Loop.{Written}
 use Rattle.lines.proofs.dense_lines.Given as goal
 
 abbrev pub invariant-loop-i : goal.invariant-loop-i

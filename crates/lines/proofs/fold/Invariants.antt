@@ -1,15 +1,7 @@
 -- `lines::fold` meets its contract: after k turns k sums and k differences are stored. Assumes nothing.
-use mathlib.Core.Path.{refl, ap, ap₂, ◌∙◌}
-use Prim.Native.Nat.{ℕ, ◌+◌, ◌*◌, ◌-◌, ◌≤◌, ◌<◌}
-use native.Mathlib.Omega.{arith}
-use borrow.Author.Rules.{rules}
-use lib.IntN.{ℤ, pos, ◌+ℤ◌, ◌-ℤ◌}
-use lib.ListN.{length, get_or}
-use Rattle.laws.specs.Integer.{wrap32}
-use Rattle.laws.proofs.Store.{Stored, stored_none, stored_turn, stored_all, stored_length, stores_in}
-use Rattle.fixed.proofs.Machine.{read_32}
-use Rattle.lines.specs.Line.{line_at, sum_of, diff_of}
-use Rattle.lines.proofs.Reach.{reaches}
+use Prim.Native.Nat.{ℕ, ◌-◌, ◌≤◌}
+use Rattle.laws.proofs.Store.{Stored}
+use Rattle.lines.specs.Line.{sum_of, diff_of}
 use Rattle.lines.proofs.fold.Given as goal
 
 abbrev pub self : ℕ → ℕ

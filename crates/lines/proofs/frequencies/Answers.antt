@@ -1,15 +1,14 @@
 -- `lines::frequencies` meets its contract: after r turns r frequencies are stored. Assumes nothing.
 use mathlib.Core.Path.{refl, ap, ◌∙◌}
-use Prim.Native.Nat.{ℕ, ◌+◌, ◌*◌, ◌-◌, ◌≤◌, ◌<◌}
+use Prim.Native.Nat.{ℕ, ◌+◌, ◌*◌, ◌<◌}
 use native.Mathlib.Omega.{arith}
-use borrow.Author.Rules.{rules}
 use lib.ListN.{length}
-use Rattle.laws.proofs.Store.{Stored, stored_none, stored_turn, stored_all, stored_length}
+use Rattle.laws.proofs.Store.{stored_none, stored_turn, stored_all, stored_length}
 use Rattle.laws.proofs.Wrap.{wrap32_is}
 use Rattle.fixed.specs.Fixed.{round_shift}
 use Rattle.fixed.proofs.Machine.{read_32}
 use Rattle.fixed.proofs.Round.{round_shift_cong}
-use Rattle.lines.specs.Line.{row_sum, place, rounded}
+use Rattle.lines.specs.Line.{row_sum, place}
 use Rattle.lines.proofs.frequencies.Goals as goal
 
 -- where a turn stores, and where it reads the table

@@ -1,13 +1,12 @@
 -- `lines::gather` meets its contract. Assumes nothing.
 use mathlib.Core.Path.{refl, ap, ◌∙◌}
 use mathlib.Core.List.{List}
-use Prim.Native.Nat.{ℕ, ◌+◌, ◌*◌, ◌-◌, ◌≤◌, ◌<◌}
+use Prim.Native.Nat.{◌+◌, ◌*◌, ◌<◌}
 use native.Mathlib.Omega.{arith}
 use lib.IntN.{ℤ, pos}
 use lib.ListN.{length, get_or}
-use Rattle.laws.proofs.Store.{Stored, stored_none, stored_turn, stored_all, stored_length, stores_in}
+use Rattle.laws.proofs.Store.{stored_none, stored_turn, stored_all, stored_length, stores_in}
 use Rattle.fixed.proofs.Machine.{read_32}
-use Rattle.lines.specs.Line.{line_at}
 use Rattle.lines.proofs.Reach.{reaches}
 use Rattle.lines.proofs.gather.Invariants.{self}
 use Rattle.lines.proofs.gather.Goals as goal

@@ -1,7 +1,6 @@
 -- `lines::halve` meets its contract. Assumes nothing.
 use mathlib.Core.Path.{sym, subst}
 use Prim.Native.Nat.{ℕ, ◌*◌}
-use borrow.Author.Rules.{rules}
 use lib.ListN.{length}
 use Rattle.lines.specs.Line.{InReach}
 use Rattle.lines.proofs.halve.Goals as goal

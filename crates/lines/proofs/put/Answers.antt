@@ -1,10 +1,8 @@
 -- `lines::put` meets its contract. Assumes nothing.
 use mathlib.Core.Path.{refl}
-use Prim.Native.Nat.{◌-◌, ◌≤◌}
 use native.Mathlib.Omega.{arith}
-use Rattle.laws.proofs.Store.{Stored, stored_none, stored_turn, stored_all, stored_length}
+use Rattle.laws.proofs.Store.{stored_none, stored_turn, stored_all, stored_length}
 use Rattle.fixed.proofs.Machine.{read_32}
-use Rattle.lines.specs.Line.{from, number}
 use Rattle.lines.proofs.put.Goals as goal
 
 pub loop-f-init : goal.loop-f-init

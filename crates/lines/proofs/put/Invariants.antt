@@ -1,9 +1,6 @@
 -- `lines::put` meets its contract. Assumes nothing.
-use mathlib.Core.Path.{refl}
 use Prim.Native.Nat.{◌-◌, ◌≤◌}
-use native.Mathlib.Omega.{arith}
-use Rattle.laws.proofs.Store.{Stored, stored_none, stored_turn, stored_all, stored_length}
-use Rattle.fixed.proofs.Machine.{read_32}
+use Rattle.laws.proofs.Store.{Stored}
 use Rattle.lines.specs.Line.{from, number}
 use Rattle.lines.proofs.put.Given as goal
 

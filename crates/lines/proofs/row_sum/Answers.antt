@@ -1,5 +1,5 @@
 -- `lines::row_sum` meets its contract: after k turns the sum is that of k products. Assumes nothing.
-use Prim.Native.Nat.{ℕ, ◌+◌, ◌*◌, ◌-◌, ◌≤◌, ◌<◌}
+use Prim.Native.Nat.{ℕ, ◌+◌, ◌*◌, ◌<◌}
 use mathlib.Core.Path.{◌∙◌, ap, sym, subst}
 use native.Mathlib.Omega.{arith}
 use borrow.Author.Rules.{rules}

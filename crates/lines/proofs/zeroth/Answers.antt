@@ -1,5 +1,4 @@
 -- `lines::zeroth` meets its contract, which is that of `frequencies`. Assumes nothing.
-use borrow.Author.Rules.{rules}
 use Rattle.lines.proofs.Reach.{zeroth_reach}
 use Rattle.lines.proofs.zeroth.Goals as goal
 

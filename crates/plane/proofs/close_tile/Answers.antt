@@ -1,6 +1,5 @@
 -- `plane::close_tile` meets its contract. Assumes nothing.
 use mathlib.Core.Path.{ap, ◌∙◌}
-use borrow.Author.Rules.{rules}
 use Rattle.plane.specs.Plane.{no_tile, with_tile, closing}
 use Rattle.plane.proofs.Ways.{as_lent, changed, named}
 use Rattle.plane.proofs.close_tile.Goals as goal

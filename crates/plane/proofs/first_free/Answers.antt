@@ -1,12 +1,9 @@
 -- `plane::first_free` meets its contract: after i turns the first free number is the smallest from i on. Assumes nothing.
-use mathlib.Core.Path.{◌≡◌, refl, sym, ap, ◌∙◌}
+use mathlib.Core.Path.{refl, sym, ap, ◌∙◌}
 use mathlib.Core.Bool.{Bool, not}
-use Prim.Native.Nat.{ℕ, ◌-◌, ◌≤◌}
 use native.Mathlib.Omega.{arith}
-use borrow.Author.Rules.{rules}
 use borrow.Author.Tests.{eq-eqb, ne_eqb}
-use Rattle.plane.specs.Plane.{tile_at, is_open, smallest, first_free}
-use Rattle.plane.specs.declared.Plane.{Plane}
+use Rattle.plane.specs.Plane.{first_free}
 use Rattle.plane.proofs.Smallest.{smallest_here, smallest_next, smallest_none}
 use Rattle.plane.proofs.first_free.Invariants.{is_free}
 use Rattle.plane.proofs.first_free.Goals as goal

@@ -1,11 +1,8 @@
 -- `plane::is_clear` meets its contract: after k turns `clear` speaks of tiles at most k numbers apart. Assumes nothing.
-use mathlib.Core.Path.{◌≡◌, refl}
+use mathlib.Core.Path.{◌≡◌}
 use Prim.Native.Nat.{suc, ◌-◌, ◌≤◌}
-use native.Mathlib.Numerals.{add-one}
-use native.Mathlib.Omega.{arith}
 use Rattle.laws.specs.Table.{every}
-use Rattle.laws.proofs.Every.{every_turn}
-use Rattle.plane.specs.Bounds.{bounds_in, clear_at, clear_all}
+use Rattle.plane.specs.Bounds.{bounds_in, clear_at}
 use Rattle.plane.proofs.is_clear.Given as goal
 
 abbrev pub invariant-loop-k : goal.invariant-loop-k

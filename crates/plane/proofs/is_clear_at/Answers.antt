@@ -1,9 +1,8 @@
 -- `plane::is_clear_at` meets its contract: after i turns `clear` speaks of the first i tiles. Assumes nothing.
 use mathlib.Core.Path.{◌≡◌, refl}
 use mathlib.Core.Bool.{not}
-use Prim.Native.Nat.{◌+◌, ◌-◌, ◌≤◌}
+use Prim.Native.Nat.{◌+◌}
 use native.Mathlib.Omega.{arith}
-use Rattle.laws.specs.Table.{every}
 use Rattle.laws.proofs.Every.{every_turn}
 use Rattle.plane.specs.Bounds.{bounds_in, meet, clear_at}
 use Rattle.plane.proofs.is_clear_at.Goals as goal

@@ -1,11 +1,9 @@
 -- `plane::is_clear_at` meets its contract: after i turns `clear` speaks of the first i tiles. Assumes nothing.
-use mathlib.Core.Path.{◌≡◌, refl}
+use mathlib.Core.Path.{◌≡◌}
 use mathlib.Core.Bool.{not}
 use Prim.Native.Nat.{◌+◌, ◌-◌, ◌≤◌}
-use native.Mathlib.Omega.{arith}
 use Rattle.laws.specs.Table.{every}
-use Rattle.laws.proofs.Every.{every_turn}
-use Rattle.plane.specs.Bounds.{bounds_in, meet, clear_at}
+use Rattle.plane.specs.Bounds.{bounds_in, meet}
 use Rattle.plane.proofs.is_clear_at.Given as goal
 
 abbrev pub invariant-loop-i : goal.invariant-loop-i

@@ -1,5 +1,4 @@
 -- `plane::is_open_for` meets its contract. Assumes nothing.
-use borrow.Author.Rules.{rules}
 use borrow.Author.Tests.{lt-ltb, le-ltb}
 use Rattle.plane.specs.Plane.{open_for}
 use Rattle.plane.proofs.is_open_for.Goals as goal

@@ -1,5 +1,4 @@
 -- `plane::is_placed` meets its contract. Assumes nothing.
-use borrow.Author.Rules.{rules}
 use Rattle.plane.specs.Plane.{placed}
 use Rattle.plane.proofs.is_placed.Goals as goal
 

@@ -1,7 +1,5 @@
 -- `plane::make_plane` meets its contract. Assumes nothing.
 use mathlib.Core.Path.{sym, ◌∙◌}
-use borrow.Author.Rules.{rules}
-use borrow.Author.Tests.{not-true, not-false}
 use Rattle.answer.specs.Answer.{lowest}
 use Rattle.plane.specs.Plane.{make_answer, making}
 use Rattle.plane.proofs.make_plane.Goals as goal

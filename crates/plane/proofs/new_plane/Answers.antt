@@ -1,5 +1,4 @@
 -- `plane::new_plane` meets its contract. Assumes nothing.
-use borrow.Author.Rules.{rules}
 use Rattle.laws.specs.Store.{tab}
 use Rattle.plane.specs.Plane.{made}
 use Rattle.plane.proofs.new_plane.Goals as goal

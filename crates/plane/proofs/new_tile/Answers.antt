@@ -1,5 +1,4 @@
 -- `plane::new_tile` meets its contract. Assumes nothing.
-use borrow.Author.Rules.{rules}
 use Rattle.plane.proofs.new_tile.Goals as goal
 
 pub returns : goal.returns

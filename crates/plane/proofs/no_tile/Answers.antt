@@ -1,5 +1,4 @@
 -- `plane::no_tile` meets its contract. Assumes nothing.
-use borrow.Author.Rules.{rules}
 use Rattle.plane.proofs.no_tile.Goals as goal
 
 pub returns : goal.returns

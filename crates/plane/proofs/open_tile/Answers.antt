@@ -1,12 +1,11 @@
 -- `plane::open_tile` meets its contract. Assumes nothing.
 use mathlib.Core.Path.{◌≡◌, refl, sym, ap, ap₂, ◌∙◌}
 use native.Mathlib.Omega.{arith}
-use borrow.Author.Rules.{rules}
 use lib.ListN.{length}
 use Rattle.answer.specs.Answer.{told}
 use Rattle.plane.specs.Plane.{new_tile, with_tile, first_free, open_answer, opening}
 use Rattle.plane.specs.declared.Tile.{Tile}
-use Rattle.plane.proofs.Known.{OpenKnown, open_known}
+use Rattle.plane.proofs.Known.{open_known}
 use Rattle.plane.proofs.Ways.{as_lent, changed}
 use Rattle.plane.proofs.open_tile.Goals as goal
 use Rattle.plane.proofs.open_tile.Lts as lts

@@ -1,15 +1,11 @@
 -- `plane::plane_ok` meets its contract: after i turns the first i tiles keep their rules, and their bounds are stored. Assumes nothing.
-use mathlib.Core.Path.{◌≡◌, refl, sym, ap, ap₂, ◌∙◌}
-use mathlib.Core.Bool.{Bool, true, ◌&&◌, and-false}
+use mathlib.Core.Path.{◌≡◌}
+use mathlib.Core.Bool.{Bool, true}
 use Prim.Native.Nat.{ℕ, ◌-◌, ◌≤◌}
-use native.Mathlib.Omega.{arith}
-use borrow.Author.Rules.{rules}
-use borrow.Author.Tests.{not-true, not-false}
 use Rattle.laws.specs.Table.{every}
-use Rattle.laws.proofs.Every.{every_not, every_turn}
-use Rattle.plane.specs.Plane.{tile_at, sides_ok, tile_ok, apart, plane_ok}
+use Rattle.plane.specs.Plane.{tile_at, tile_ok}
 use Rattle.plane.specs.declared.Plane.{Plane}
-use Rattle.plane.proofs.Clear.{Bounded, bounded_none, bounded_turn, bounds_room, clear_is, in_largest}
+use Rattle.plane.proofs.Clear.{Bounded}
 use Rattle.plane.proofs.plane_ok.Given as goal
 
 abbrev pub is_ok : Plane → ℕ → Bool

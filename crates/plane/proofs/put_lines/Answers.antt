@@ -1,9 +1,8 @@
 -- `plane::put_lines` meets its contract. Assumes nothing.
-use Prim.Native.Nat.{◌-◌, ◌*◌, ◌≤◌}
+use Prim.Native.Nat.{◌-◌, ◌*◌}
 use native.Mathlib.Omega.{arith}
 use lib.ListN.{length}
-use Rattle.laws.proofs.Store.{Lined, lined_none, lined_turn, lined_all, lined_length}
-use Rattle.plane.specs.Places.{plane_place, line_number}
+use Rattle.laws.proofs.Store.{lined_none, lined_turn, lined_all, lined_length}
 use Rattle.plane.proofs.Put.{InRow, in_row, line_stored}
 use Rattle.plane.proofs.put_lines.Goals as goal
 

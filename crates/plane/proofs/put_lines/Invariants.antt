@@ -1,10 +1,7 @@
 -- `plane::put_lines` meets its contract. Assumes nothing.
-use Prim.Native.Nat.{◌-◌, ◌*◌, ◌≤◌}
-use native.Mathlib.Omega.{arith}
-use lib.ListN.{length}
-use Rattle.laws.proofs.Store.{Lined, lined_none, lined_turn, lined_all, lined_length}
+use Prim.Native.Nat.{◌-◌, ◌≤◌}
+use Rattle.laws.proofs.Store.{Lined}
 use Rattle.plane.specs.Places.{plane_place, line_number}
-use Rattle.plane.proofs.Put.{InRow, in_row, line_stored}
 use Rattle.plane.proofs.put_lines.Given as goal
 
 abbrev pub invariant-loop-i : goal.invariant-loop-i

@@ -1,8 +1,6 @@
 -- `plane::ticket_ok` meets its contract. Assumes nothing.
 use mathlib.Core.Path.{◌≡◌, sym, ap₂, ◌∙◌}
 use mathlib.Core.Bool.{Bool, not, ◌&&◌}
-use borrow.Author.Rules.{rules}
-use borrow.Author.Tests.{not-true, not-false}
 use Rattle.laws.proofs.Bool.{both}
 use Rattle.sizes.specs.Size.{is_side}
 use Rattle.sizes.proofs.Side.{side_bounds}

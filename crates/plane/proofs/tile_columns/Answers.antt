@@ -2,7 +2,6 @@
 use mathlib.Core.Path.{ap, ◌∙◌}
 use Prim.Native.Nat.{◌<◌}
 use native.Mathlib.Omega.{arith}
-use borrow.Author.Rules.{rules}
 use Rattle.plane.specs.Batch.{columns_in}
 use Rattle.plane.specs.Plane.{with_tile}
 use Rattle.plane.proofs.Ways.{named, not_named, columns_refused, columns_done}

@@ -1,5 +1,4 @@
 -- `plane::tile_ok` meets its contract. Assumes nothing.
-use borrow.Author.Rules.{rules}
 use borrow.Author.Tests.{eq-eqb, ne_eqb}
 use Rattle.plane.specs.Plane.{tile_ok}
 use Rattle.plane.proofs.tile_ok.Goals as goal

@@ -1,7 +1,6 @@
 -- `plane::tile_outcome` meets its contract. Assumes nothing.
 use mathlib.Core.Path.{◌≡◌, sym, ap, ◌∙◌}
 use mathlib.Core.Bool.{Bool, true, false, ◌&&◌}
-use borrow.Author.Rules.{rules}
 use lib.Dec.{ltb}
 use Rattle.laws.proofs.Bool.{both}
 use Rattle.answer.specs.Answer.{lowest}

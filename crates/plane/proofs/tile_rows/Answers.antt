@@ -1,12 +1,9 @@
 -- `plane::tile_rows` meets its contract. Assumes nothing.
 use mathlib.Core.Path.{ap, ◌∙◌}
 use native.Mathlib.Omega.{arith}
-use borrow.Author.Rules.{rules}
-use lib.ListN.{length}
 use Rattle.plane.specs.Batch.{rows_in}
 use Rattle.plane.specs.Plane.{tile_at, with_ticket, with_tile}
-use Rattle.plane.proofs.Known.{TileKnown}
-use Rattle.plane.proofs.Rows.{RowsAsked, plane_small, rows_short, rows_refused, rows_asked, rows_done}
+use Rattle.plane.proofs.Rows.{plane_small, rows_short, rows_refused, rows_asked, rows_done}
 use Rattle.plane.proofs.Ways.{named, not_named}
 use Rattle.plane.proofs.tile_rows.Goals as goal
 

@@ -2,7 +2,6 @@
 use mathlib.Core.Path.{ap, ◌∙◌}
 use mathlib.Core.Bool.{Bool}
 use Prim.Native.Nat.{ℕ}
-use borrow.Author.Rules.{rules}
 use Rattle.tickets.specs.Batch.{batch_of, answer_unless}
 use Rattle.previews.specs.Preview.{is_short}
 use Rattle.previews.proofs.preview_outcome.Goals as goal

@@ -1,5 +1,4 @@
 -- `tickets::any_batch` meets its contract. Assumes nothing.
-use borrow.Author.Rules.{rules}
 use Rattle.tickets.proofs.Batch.{column_is, row_is}
 use Rattle.tickets.proofs.any_batch.Goals as goal
 

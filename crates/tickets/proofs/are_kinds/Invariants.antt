@@ -1,15 +1,9 @@
 -- `tickets::are_kinds` meets its contract: every kind before the place is one. Assumes nothing.
-use mathlib.Core.Path.{◌≡◌, sym}
+use mathlib.Core.Path.{◌≡◌}
 use mathlib.Core.Bool.{true}
 use Prim.Native.Nat.{ℕ, ◌-◌, ◌<◌, ◌≤◌}
-use native.Mathlib.Omega.{arith}
-use borrow.Author.Rules.{rules}
-use borrow.Author.Count.{below_more}
-use borrow.Author.Tests.{le-leb, lt-leb}
 use lib.Dec.{leb}
 use lib.ListN.{length, get_or}
-use Rattle.tickets.specs.Play.{are_kinds}
-use Rattle.laws.proofs.Every.{every_all, every_not}
 use Rattle.tickets.proofs.are_kinds.Given as goal
 
 abbrev pub invariant-loop-i : goal.invariant-loop-i

@@ -1,5 +1,4 @@
 -- `tickets::open` meets its contract. Assumes nothing.
-use borrow.Author.Rules.{rules}
 use Rattle.tickets.proofs.Opened.{open_refused, open_done}
 use Rattle.tickets.proofs.open.Goals as goal
 

@@ -1,5 +1,4 @@
 -- `tickets::out_of_order` meets its contract. Assumes nothing.
-use borrow.Author.Rules.{rules}
 use Rattle.tickets.specs.Batch.{out_of_order}
 use Rattle.tickets.proofs.out_of_order.Goals as goal
 

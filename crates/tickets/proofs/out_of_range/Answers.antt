@@ -1,5 +1,4 @@
 -- `tickets::out_of_range` meets its contract. Assumes nothing.
-use borrow.Author.Rules.{rules}
 use Rattle.tickets.specs.Batch.{out_of_range}
 use Rattle.tickets.proofs.out_of_range.Goals as goal
 

@@ -1,9 +1,8 @@
 -- `tickets::play` meets its contract: after i turns the state is what the first i batches leave. Assumes nothing.
 use mathlib.Core.Path.{◌≡◌, refl, sym, ap, ◌∙◌}
 use mathlib.Core.List.{List}
-use Prim.Native.Nat.{ℕ, ◌*◌, ◌-◌, ◌^◌, ◌<◌, ◌≤◌}
+use Prim.Native.Nat.{ℕ, ◌<◌}
 use native.Mathlib.Omega.{arith}
-use borrow.Author.Rules.{rules}
 use lib.ListN.{length}
 use mir.Facts.{to_z-of_z}
 use mir.Syntax.{w64}
@@ -12,9 +11,9 @@ use Rattle.answer.specs.Answer.{told}
 use Rattle.answer.specs.declared.Outcome.{Outcome}
 use Rattle.answer.specs.declared.Outcome.TheVariants.{Done}
 use Rattle.tickets.specs.Run.{state_at}
-use Rattle.tickets.specs.Play.{batches_of, play_answer}
+use Rattle.tickets.specs.Play.{play_answer}
 use Rattle.tickets.specs.declared.Batched.{Batched}
-use Rattle.tickets.proofs.Played.{Playable, playable, Going, going_none, Within, Turn, turn_small, going_on, going_all, not_played, as_settled}
+use Rattle.tickets.proofs.Played.{Playable, playable, going_none, Within, Turn, turn_small, going_on, going_all, not_played, as_settled}
 use Rattle.tickets.proofs.play.Goals as goal
 use Rattle.tickets.proofs.play.Lts as lts
 use Rattle.tickets.proofs.play.Reads as reads

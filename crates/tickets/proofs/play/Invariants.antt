@@ -1,18 +1,10 @@
 -- `tickets::play` meets its contract: after i turns the state is what the first i batches leave. Assumes nothing.
-use mathlib.Core.Path.{◌≡◌, refl, sym, ap, ◌∙◌}
-use Prim.Native.Nat.{◌*◌, ◌-◌, ◌^◌, ◌<◌, ◌≤◌}
-use native.Mathlib.Omega.{arith}
-use borrow.Author.Rules.{rules}
+use mathlib.Core.Path.{◌≡◌}
+use Prim.Native.Nat.{◌-◌, ◌≤◌}
 use lib.ListN.{length}
-use mir.Facts.{to_z-of_z}
-use mir.Syntax.{w64}
-use Rattle.laws.proofs.Store.{stored_length}
-use Rattle.answer.specs.Answer.{told}
-use Rattle.answer.specs.declared.Outcome.TheVariants.{Done}
 use Rattle.tickets.specs.Run.{state_at}
 use Rattle.tickets.specs.Play.{batches_of}
-use Rattle.tickets.specs.declared.Batched.{Batched}
-use Rattle.tickets.proofs.Played.{Playable, playable, Going, going_none, Within, Turn, turn_small, going_on, going_all, not_played, as_settled}
+use Rattle.tickets.proofs.Played.{Going}
 use Rattle.tickets.proofs.play.Given as goal
 
 abbrev pub invariant-loop-i : goal.invariant-loop-i

@@ -1,7 +1,5 @@
 -- `tickets::play_outcome` meets its contract. Assumes nothing.
 use mathlib.Core.Path.{sym, ◌∙◌}
-use borrow.Author.Tests.{not-true, not-false}
-use borrow.Author.Rules.{rules}
 use Rattle.answer.specs.Answer.{lowest}
 use Rattle.tickets.specs.Play.{play_answer}
 use Rattle.tickets.proofs.play_outcome.Goals as goal

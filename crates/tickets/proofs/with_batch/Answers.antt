@@ -1,5 +1,4 @@
 -- `tickets::with_batch` meets its contract. Assumes nothing.
-use borrow.Author.Rules.{rules}
 use Rattle.tickets.specs.Batch.{with_batch}
 use Rattle.tickets.proofs.with_batch.Goals as goal
 
