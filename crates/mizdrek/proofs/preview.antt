@@ -1,3 +1,2 @@
 -- What the proofs of both previews use.
-mod Entry
 mod Signed

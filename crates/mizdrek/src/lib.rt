@@ -1,5 +1,7 @@
 // The C interface: numbers, slices (a pointer, then a length), and a lent ticket or plane record. An answer is a signed 64-bit number: 0 or more for
 // an answer, minus document 01's number for a refusal. include/mizdrek.h declares these functions.
+#![tactic(auto)]
+
 mod disk;
 mod frame;
 mod levels;
