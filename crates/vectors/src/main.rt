@@ -10,9 +10,8 @@ mod quantizer;
 mod record;
 mod transforms;
 
-use std::fs;
-use std::io;
 use std::io::Read;
+use std::{fs, io};
 use text::print_text;
 
 // Whether the library gives what the record says, and the record says nothing else.
