@@ -1,4 +1,6 @@
 // Numbers and text to standard output. A write that fails ends the call with its error.
+ghost use Rattle.std.specs.Prelude.{◌≤◌, ◌<◌, ◌-◌, ◌^◌};
+
 use std::io;
 
 pub fn print_text(rt: &impl Print, text: &[u8]) -> io::Result<()> {
@@ -16,7 +18,11 @@ fn print_spaces(rt: &impl Print, count: usize) -> io::Result<()> {
 }
 
 // How many decimal digits a number has.
-fn digit_count(n: u64) -> usize {
+fn digit_count(n: u64) -> usize
+    ensures some { 1 ≤ result }
+    ensures enough { n < 10 ^ result }
+    ensures fewest { 1 < result → 10 ^ (result - 1) ≤ n }
+{
     match n.checked_ilog10() {
         None => 1,
         Some(k) => k as usize + 1,
