@@ -1,3 +1,4 @@
+pub mod Finite
 pub mod Levels
 pub mod Reported
 pub mod Preview

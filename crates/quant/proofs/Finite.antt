@@ -1,18 +1,19 @@
 -- No magnitude and no level is a NaN or an infinity, whatever settings, step and coefficient are accepted; and zero stays zero under all of
 -- them, the smallest step too. So it is of every number that an accepted call writes. Assumes nothing.
-use mathlib.Core.Path.{◌≡◌, sym, subst}
-use mathlib.Core.Bool.{true}
-use mathlib.Core.List.{List}
+use mathlib.Core.Path.{◌≡◌, refl, sym, subst}
+use mathlib.Core.Bool.{Bool, true, false, not, cond}
+use mathlib.Core.List.{List, [], ◌∷◌}
 use Prim.Native.Nat.{ℕ, ◌<◌, ◌≤◌}
 use lib.Dec.{T}
-use lib.IntN.{ℤ, pos}
+use lib.IntN.{ℤ}
 use lib.Ieee.{Float}
 use lib.Ieee.Scale.{finite}
 use lib.ListN.{length, get_or}
-use Rattle.answer.specs.Answer.{Answer, answers, after}
+use Rattle.answer.specs.Answer.{Answer, answers, lowest, after}
 use Rattle.laws.proofs.Filled.{front_at}
-use Rattle.quant.specs.Float.{zero32}
+use Rattle.quant.specs.Finite.{AlwaysFinite, ZeroStays, ScanFinite, AllFinite, OneFinite}
 use Rattle.quant.specs.Level.{magnitude_at, level_at}
+use Rattle.quant.specs.Place.{kept, dropped, is_kept, place_of, unless, one_answer}
 use Rattle.quant.specs.Scan.{named_at, scan_answer, scanned, levels_after, magnitudes_after}
 use Rattle.quant.specs.Settings.{settings_ok, coefficient_ok}
 use Rattle.quant.specs.declared.Settings.{Settings}
@@ -20,12 +21,11 @@ use Rattle.quant.proofs.Bounded as bounded
 use Rattle.quant.proofs.Scanned.{Call, answer, accepted}
 
 -- each accepted coefficient has a finite magnitude and a finite level
-pub always_finite : (s : Settings) (step : ℕ) (c : ℤ) → settings_ok s step ≡ true → coefficient_ok c ≡ true
-    → T (finite (magnitude_at s step c)) × T (finite (level_at s step c))
+pub always_finite : AlwaysFinite
 always_finite s step c ok fine = (bounded.magnitude_finite s step ok c fine, bounded.level_finite s step ok c fine)
 
 -- the zero coefficient has magnitude +0.0 and level +0.0
-pub zero_stays : (s : Settings) (step : ℕ) → settings_ok s step ≡ true → (magnitude_at s step (pos 0) ≡ zero32) × (level_at s step (pos 0) ≡ zero32)
+pub zero_stays : ZeroStays
 zero_stays s step ok = (bounded.zero_magnitude s step ok, bounded.zero_level s step ok)
 
 -- ---- every number that an accepted call over a scan writes is finite
@@ -56,3 +56,28 @@ module _ (width step : ℕ) (s : Settings) (coefficients : List ℤ) (scan : Lis
   magnitudes_finite =
       let c = (accepted k m done).on_card in
       finite_at k (magnitude_at s step) (λ z ok. (always_finite s step z c.fine ok).0) m done magnitudes c.magnitudes_room
+
+pub scan_finite : ScanFinite
+scan_finite width step s coefficients scan levels magnitudes m done = (
+  levels_finite width step s coefficients scan levels magnitudes m (sym done),
+  magnitudes_finite width step s coefficients scan levels magnitudes m (sym done),
+)
+
+-- ---- and every number of the answer for one place
+
+pub one_finite : OneFinite
+unfolding one_answer place_of lowest
+one_finite s step c = tested (settings_ok s step) (coefficient_ok c) (always_finite s step c)
+  where
+    place : T (finite (magnitude_at s step c)) × T (finite (level_at s step c)) → AllFinite (place_of s step c)
+    place f = go (is_kept s step c)
+      where
+        go : (t : Bool) → AllFinite (cond t (kept (level_at s step c) (magnitude_at s step c)) (dropped (magnitude_at s step c)))
+        go true = (f.1, f.0)
+        go false = f.0
+
+    tested : (a b : Bool) → (a ≡ true → b ≡ true → T (finite (magnitude_at s step c)) × T (finite (level_at s step c)))
+        → AllFinite (unless (lowest ((not a, 7) ∷ (not b, 9) ∷ []) 1) (place_of s step c))
+    tested false b f = tt
+    tested true false f = tt
+    tested true true f = place (f refl refl)

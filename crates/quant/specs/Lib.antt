@@ -1,4 +1,5 @@
 pub mod Examples
+pub mod Finite
 pub mod Float
 pub mod Level
 pub mod Place
