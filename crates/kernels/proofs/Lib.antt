@@ -1,3 +1,4 @@
 pub mod Dct
 pub mod Mirror
+pub mod MirrorRead
 pub mod RowSize

@@ -1,6 +1,7 @@
 -- One kernel number by kind, side, frequency and sample: what every pass is made of.
-use Rattle.std.specs.Prelude.{Bool, ◌&&◌, ◌||◌, not, ℕ, zero, suc, eqb, ℤ, pos, nat_abs}
+use Rattle.std.specs.Prelude.{◌≡◌, Bool, true, ◌&&◌, ◌||◌, not, ℕ, zero, suc, ◌*◌, ◌≤◌, ◌<◌, eqb, ℤ, pos, nat_abs}
 use Rattle.laws.specs.Sum.{sum_ℕ}
+use Rattle.sizes.specs.Size.{is_side}
 use Rattle.kernels.specs.Dct.{dct}
 use Rattle.kernels.specs.Adst.{adst}
 
@@ -17,3 +18,15 @@ has_kernel kind n = eqb kind 0 || (eqb kind 1 && not (eqb n 32))
 -- the sum of magnitudes in the row of frequency f
 unfoldable pub row_size : ℕ → ℕ → ℕ → ℕ
 row_size kind n f = sum_ℕ n (λ k. nat_abs (kernel kind n f k))
+
+-- the most that the magnitudes of a row of n numbers add to
+abbrev pub row_limit : ℕ → ℕ
+row_limit n = 64 * n
+
+-- each row keeps to it
+unfoldable pub SmallRows : ℕ → ℕ → Type 0
+SmallRows kind n = has_kernel kind n ≡ true → (f : ℕ) → f < n → row_size kind n f ≤ row_limit n
+
+-- at every kind and side that has a kernel
+abbrev pub RowSums : Type 0
+RowSums = (kind n : ℕ) → is_side n ≡ true → SmallRows kind n

@@ -1,3 +1,4 @@
 pub mod Adst
 pub mod Dct
 pub mod Kernel
+pub mod Mirror

@@ -1,5 +1,7 @@
 pub mod Batch
+pub mod ByPlace
 pub mod Condition3
+pub mod ExampleList
 pub mod Examples
 pub mod Held
 pub mod Mark

@@ -5,3 +5,5 @@ pub mod Run
 pub mod Condition3
 pub mod Play
 pub mod Reading
+pub mod ByPlace
+pub mod Examples
