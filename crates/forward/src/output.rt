@@ -19,32 +19,31 @@ pub fn print_wanted(rt: &impl Print, word: usize, wanted: &[u8]) -> io::Result<(
 }
 
 // A word for a refusal: document 01's for 1 to 9, our own for document 02's.
-fn word_of(why: &Refusal) -> &'static [u8] {
+fn print_word(rt: &impl Print, why: Refusal) -> io::Result<()> {
     match why {
-        Refusal::BadSize => b"gauge",
-        Refusal::BadKind => b"kind",
-        Refusal::ShortBuffer => b"short stock",
-        Refusal::ResidualRange => b"overdriven",
-        Refusal::BatchRange => b"off the line",
-        Refusal::BatchOrder => b"out of turn",
-        Refusal::BadSetting => b"bad setting",
-        Refusal::ScanRange => b"lost place",
-        Refusal::CoefficientRange => b"too dense",
-        Refusal::CutRecord => b"cut record",
-        Refusal::BadRecord => b"bad record",
-        Refusal::RecordOrder => b"record out of turn",
-        Refusal::BadTile => b"bad tile",
-        Refusal::TileNotOpen => b"tile not open",
-        Refusal::BadFile => b"bad file",
+        Refusal::BadSize => print_text(rt, b"gauge"),
+        Refusal::BadKind => print_text(rt, b"kind"),
+        Refusal::ShortBuffer => print_text(rt, b"short stock"),
+        Refusal::ResidualRange => print_text(rt, b"overdriven"),
+        Refusal::BatchRange => print_text(rt, b"off the line"),
+        Refusal::BatchOrder => print_text(rt, b"out of turn"),
+        Refusal::BadSetting => print_text(rt, b"bad setting"),
+        Refusal::ScanRange => print_text(rt, b"lost place"),
+        Refusal::CoefficientRange => print_text(rt, b"too dense"),
+        Refusal::CutRecord => print_text(rt, b"cut record"),
+        Refusal::BadRecord => print_text(rt, b"bad record"),
+        Refusal::RecordOrder => print_text(rt, b"record out of turn"),
+        Refusal::BadTile => print_text(rt, b"bad tile"),
+        Refusal::TileNotOpen => print_text(rt, b"tile not open"),
+        Refusal::BadFile => print_text(rt, b"bad file"),
     }
 }
 
 pub fn print_refused(rt: &impl Print, why: Refusal) -> io::Result<()> {
-    let word = word_of(&why);
     print_text(rt, b"refused ")?;
     text::print_in_column(rt, false, answer::number(why) as u64, 0)?;
     print_text(rt, b" ")?;
-    print_text(rt, word)?;
+    print_word(rt, why)?;
     print_text(rt, b"\n")
 }
 

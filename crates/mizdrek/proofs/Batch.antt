@@ -13,8 +13,11 @@ use Rattle.tickets.specs.declared.Ticket.{Ticket}
 use Rattle.tickets.proofs.Played.{answer_small}
 use Rattle.dispatch.specs.Lent.{lent}
 
-pub batch_small : (t : Ticket) (b : Batch) (source target : List ℤ) (r : Outcome) {u : Ticket} {d : List ℤ} → lent r u d ≡ batch t b source target
-    → T (is_small (told r))
+pub batch_small : (t : Ticket) (b : Batch) (source target : List ℤ) → T (is_small (batch t b source target).answer)
 unfolding batch
-batch_small t b source target r e =
-    signed_asked (ap (λ (g : Given). g.answer) e) (answer_small false t b (length source) (length target))
+batch_small t b source target = answer_small false t b (length source) (length target)
+
+-- and so is that of the call that meets it
+pub told_small : (t : Ticket) (b : Batch) (source target : List ℤ) (r : Outcome) {u : Ticket} {d : List ℤ} → lent r u d ≡ batch t b source target
+    → T (is_small (told r))
+told_small t b source target r e = signed_asked (ap (λ (g : Given). g.answer) e) (batch_small t b source target)
