@@ -12,7 +12,6 @@ ghost use Rattle.forward.specs.Sized.{Sized};
 use answer::Outcome;
 use quant::Settings;
 use std::io;
-use std::io::Read;
 use text::print_text;
 
 // The levels of a block's coefficients.
@@ -107,10 +106,10 @@ fn run(rt: &impl Print, words: &[u8]) -> io::Result<()> {
 }
 
 fn main(rt: HostRuntime) -> io::Result<()> {
-    let mut words = Vec::new(rt.alloc());
-    let n = rt.reader().take(65536).read_to_end(&mut words)?;
+    let mut words = [0u8; 65536];
+    let n = text::read_full(&mut rt.reader(), &mut words)?;
     if n == 65536 {
         return print_text(&rt, b"the input should be shorter than 65536 bytes\n");
     }
-    run(&rt, words.as_slice())
+    run(&rt, &words[..n])
 }

@@ -62,10 +62,17 @@ fn replay(rt: &impl Print, list: &[u8]) -> io::Result<()> {
     print_text(rt, b"the list has more than 65536 records\n")
 }
 
+// Replays what the source has, as much as list has room for.
+fn replay_all<const N: usize>(
+    rt: &impl Print,
+    source: &mut impl Read,
+    list: &mut [u8; N],
+) -> io::Result<()> {
+    let n = text::read_full(source, list)?;
+    replay(rt, &list[..n])
+}
+
 fn main(rt: HostRuntime) -> io::Result<()> {
-    let mut list = Vec::new(rt.alloc());
-    fs::open(&rt, "answers")?
-        .take(655360)
-        .read_to_end(&mut list)?;
-    replay(&rt, list.as_slice())
+    let mut list = [0u8; 655360];
+    replay_all(&rt, &mut fs::open(&rt, "answers")?, &mut list)
 }
