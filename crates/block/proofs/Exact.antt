@@ -28,6 +28,7 @@ use Rattle.kernels.proofs.RowSize.{Within, row_size_lem}
 use Rattle.lines.specs.Pass.{pass_sum, pass_at, pass_lines}
 use Rattle.block.specs.Block.{column_at, columns, rescaled, row_at}
 use Rattle.block.specs.Lines.{column_lines, row_lines}
+use Rattle.block.specs.NoWrap.{largest_sum}
 
 -- ---- how large a rounded number can be
 
@@ -79,10 +80,6 @@ column_size w h = round_size (first_shift w h) (column_sum_size h)
 
 unfoldable pub row_sum_size : ℕ → ℕ → ℕ
 row_sum_size w h = 64 * w * column_size w h
-
--- "the largest sum before rounding"
-unfoldable pub largest_sum : ℕ
-largest_sum = 2146959360
 
 pub column_largest : (w h : ℕ) → is_side w ≡ true → is_side h ≡ true → column_sum_size h ≤ largest_sum
 unfolding column_sum_size largest_sum

@@ -3,8 +3,7 @@ use mathlib.Core.Path.{◌≡◌, refl}
 use mathlib.Core.Bool.{true, ◌&&◌, ◌||◌}
 use mathlib.Core.List.{List}
 use Prim.Native.Nat.{ℕ, ◌*◌, ◌≤◌, ◌<◌}
-use native.Mathlib.Nat.{le_trans}
-use lib.Dec.{eqb, leb→le}
+use lib.Dec.{eqb}
 use lib.IntN.{ℤ, pos, nat_abs}
 use lib.ListN.{get_or}
 use Rattle.laws.specs.Store.{tab}
@@ -19,13 +18,7 @@ use Rattle.lines.specs.Pass.{pass_sum}
 use Rattle.block.specs.Answer.{has_kinds}
 use Rattle.block.specs.Block.{column_at, columns}
 use Rattle.block.specs.NoWrap.{InLimit, Unwrapped, SmallSums, NoWrap, IsLargest, largest_sum}
-use Rattle.block.proofs.Exact as exact
 use Rattle.block.proofs.Exact.{columns_at, column_sum_small, column_exact, row_sum_small, row_pass_exact}
-
--- the bound that the sums were shown to keep to is the largest sum
-within : exact.largest_sum ≤ largest_sum
-unfolding exact.largest_sum largest_sum
-within = leb→le _ _ tt
 
 module _ {w h ck rk : ℕ} {residuals : List ℤ} (a : InLimit w h ck rk residuals) where
   small : (p : ℕ) → p < w * h → nat_abs (get_or residuals p (pos 0)) ≤ 4095
@@ -49,8 +42,8 @@ module _ {w h ck rk : ℕ} {residuals : List ℤ} (a : InLimit w h ck rk residua
   small_sums : SmallSums w h ck rk residuals
   small_sums =
       record {
-        column = λ j f bj bf. le_trans (column_sum_small w h ck residuals a.wide a.high kernels.0 small j f bj bf) within;
-        row = λ j f bj bf. le_trans (row_sum_small w h ck residuals a.wide a.high kernels.0 small rk kernels.1 j f bj bf) within;
+        column = column_sum_small w h ck residuals a.wide a.high kernels.0 small;
+        row = row_sum_small w h ck residuals a.wide a.high kernels.0 small rk kernels.1;
       }
 
 pub no_wrap : NoWrap

@@ -251,6 +251,38 @@ fn trials<'a>(
     print_text(rt, b"\n")
 }
 
+// Choices between two trials: by the sums, on a tie, of no level, and of more levels than there are.
+fn choices(rt: &impl Print) -> io::Result<()> {
+    trials(
+        rt,
+        b"trials 3 -4 and -2 1, 2 levels",
+        &[3i32, -4],
+        &[-2i32, 1],
+        2,
+    )?;
+    trials(
+        rt,
+        b"trials 3 -4 and 0 7, 2 levels",
+        &[3i32, -4],
+        &[0i32, 7],
+        2,
+    )?;
+    trials(
+        rt,
+        b"trials 3 -4 and -2 1, no level",
+        &[3i32, -4],
+        &[-2i32, 1],
+        0,
+    )?;
+    trials(
+        rt,
+        b"trials 3 -4 and -2 1, 3 levels",
+        &[3i32, -4],
+        &[-2i32, 1],
+        3,
+    )
+}
+
 fn main(rt: HostRuntime) -> io::Result<()> {
     blocks(&rt)?;
     // "Step 0: number 7. Step 1: accepted."
@@ -265,32 +297,5 @@ fn main(rt: HostRuntime) -> io::Result<()> {
     list(&rt)?;
     preview(&rt)?;
     planes(&rt)?;
-    trials(
-        &rt,
-        b"trials 3 -4 and -2 1, 2 levels",
-        &[3i32, -4],
-        &[-2i32, 1],
-        2,
-    )?;
-    trials(
-        &rt,
-        b"trials 3 -4 and 0 7, 2 levels",
-        &[3i32, -4],
-        &[0i32, 7],
-        2,
-    )?;
-    trials(
-        &rt,
-        b"trials 3 -4 and -2 1, no level",
-        &[3i32, -4],
-        &[-2i32, 1],
-        0,
-    )?;
-    trials(
-        &rt,
-        b"trials 3 -4 and -2 1, 3 levels",
-        &[3i32, -4],
-        &[-2i32, 1],
-        3,
-    )
+    choices(&rt)
 }

@@ -12,7 +12,7 @@ use Rattle.sizes.specs.Size.{is_side}
 use Rattle.sizes.proofs.Side.{each_side}
 use Rattle.kernels.specs.Dct.{dct, dct32}
 use Rattle.kernels.specs.Adst.{adst, adst16, adst8, adst4}
-use Rattle.kernels.specs.Kernel.{kernel, has_kernel, row_size, row_limit, SmallRows, RowSums}
+use Rattle.kernels.specs.Kernel.{kernel, has_kernel, row_size, SmallRows, RowSums}
 
 unfoldable pub Within : ℕ → ℕ → Type 0
 Within kind n = has_kernel kind n ≡ true → (f : ℕ) → f < n → row_size kind n f ≤ 64 * n
@@ -38,19 +38,6 @@ row_size_lem (suc zero) =
     (none 1 32 (λ e. false≢true e))
 row_size_lem (suc (suc kind)) = λ n s. none (suc (suc kind)) n (λ e. false≢true (sym (no_kernel kind n) ∙ e))
 
--- the same of the limit that is stated
-by_limit : (kind n : ℕ) → T (every n (λ f. leb (row_size kind n f) (row_limit n))) → SmallRows kind n
-unfolding SmallRows
-by_limit kind n t has f b = leb→le (row_size kind n f) (row_limit n) (every_at n (λ f. leb (row_size kind n f) (row_limit n)) t f b)
-
-no_rows : (kind n : ℕ) → (has_kernel kind n ≡ true → ⊥) → SmallRows kind n
-unfolding SmallRows
-no_rows kind n never has f b = absurd (never has)
-
 pub row_sums : RowSums
-unfolding row_size kernel sum_ℕ dct dct32 adst adst16 adst8 adst4 has_kernel
-row_sums zero = each_side (SmallRows 0) (by_limit 0 4 tt) (by_limit 0 8 tt) (by_limit 0 16 tt) (by_limit 0 32 tt)
-row_sums (suc zero) =
-    each_side (SmallRows 1) (by_limit 1 4 tt) (by_limit 1 8 tt) (by_limit 1 16 tt)
-    (no_rows 1 32 (λ e. false≢true e))
-row_sums (suc (suc kind)) = λ n s. no_rows (suc (suc kind)) n (λ e. false≢true (sym (no_kernel kind n) ∙ e))
+unfolding Within SmallRows
+row_sums kind n s = row_size_lem kind n s

@@ -2,7 +2,7 @@
 -- accepted." With a list of four on a block of 8 × 4, and an opening that is accepted. Assumes nothing.
 use mathlib.Core.Path.{◌≡◌, refl}
 use mathlib.Core.Bool.{true, false}
-use mathlib.Core.List.{List, [], ◌∷◌}
+use mathlib.Core.List.{[], ◌∷◌}
 use Prim.Native.Nat.{ℕ}
 use lib.IntN.{pos}
 use lib.ListN.{replicate}
@@ -13,10 +13,11 @@ use Rattle.kernels.specs.Kernel.{has_kernel}
 use Rattle.residual.specs.Residual.{in_limit, residuals_ok}
 use Rattle.block.specs.Answer.{has_kinds, refusals}
 use Rattle.tickets.specs.Mark.{marked, any_from, all_marked, within}
-use Rattle.tickets.specs.Batch.{Batch, batch_of, out_of_range, out_of_order, answer_unless, batch_answer}
+use Rattle.tickets.specs.Batch.{batch_of, out_of_range, out_of_order, answer_unless, batch_answer}
 use Rattle.tickets.specs.Open.{open_answer, new_ticket}
 use Rattle.tickets.specs.Run.{nth}
 use Rattle.tickets.specs.Condition3.{covers, answer_to, covered}
+use Rattle.tickets.specs.Examples.{list}
 
 -- what a column batch of a newly opened block of w × 32 answers
 abbrev columns_of : ℕ → ℕ → ℕ → Answer
@@ -26,10 +27,6 @@ pub batches : columns_of 4 0 4 ∷ columns_of 4 4 4 ∷ columns_of 4 0 8 ∷ col
     ≡ answers 4 ∷ refuses 5 ∷ refuses 5 ∷ refuses 5 ∷ answers 4 ∷ []
 unfolding answer_unless lowest is_side has_kinds has_kernel out_of_range out_of_order any_from all_marked marked
 batches = refl
-
--- a row batch before the columns, a bad range, the columns, and the row batch again
-abbrev list : List Batch
-list = batch_of true 0 4 ∷ batch_of false 2 4 ∷ batch_of false 0 8 ∷ batch_of true 0 4 ∷ []
 
 pub list_answers : tab 4 (λ i. answer_to 8 4 (covered 8 4 list i false) (nth list i)) ≡ refuses 6 ∷ refuses 5 ∷ answers 8 ∷ answers 4 ∷ []
 unfolding tab answer_to covered covers within out_of_range lowest
