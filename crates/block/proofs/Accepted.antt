@@ -3,7 +3,7 @@ use mathlib.Core.Path.{◌≡◌}
 use mathlib.Core.Bool.{true, ◌&&◌, ◌||◌}
 use mathlib.Core.List.{List}
 use Prim.Native.Nat.{ℕ, ◌*◌, ◌≤◌}
-use native.Mathlib.Nat.{mul-le-mul, lt_of_le_of_lt}
+use native.Mathlib.Nat.{lt_of_le_of_lt}
 use lib.Dec.{T, ltb, eqb, lit<}
 use lib.IntN.{ℤ}
 use lib.ListN.{length}
@@ -12,14 +12,10 @@ use Rattle.laws.proofs.Bool.{both, neither}
 use Rattle.answer.specs.Answer.{answers, lowest, is_small}
 use Rattle.answer.proofs.Answer.{passed, guarded_small}
 use Rattle.sizes.specs.Size.{is_side}
-use Rattle.sizes.proofs.Side.{side_bounds}
+use Rattle.sizes.proofs.Side.{size_small}
 use Rattle.kernels.specs.Kernel.{has_kernel}
 use Rattle.residual.specs.Residual.{residuals_ok}
 use Rattle.block.specs.Answer.{has_kinds, refusals, block_answer}
-
--- a block has at most 1,024 numbers
-pub size_small : (w h : ℕ) → is_side w ≡ true → is_side h ≡ true → w * h ≤ 1024
-size_small w h sw sh = mul-le-mul (side_bounds w sw).high (side_bounds h sh).high
 
 pub record Accepted (w h ck rk : ℕ) (residuals : List ℤ) (ls lo : ℕ) : Type 0 where
   pub wide : is_side w ≡ true

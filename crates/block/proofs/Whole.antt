@@ -10,7 +10,6 @@ use lib.ListN.{length, get_or}
 use Rattle.laws.specs.Store.{laid}
 use Rattle.laws.proofs.Laid.{laid_at}
 use Rattle.residual.proofs.Residual.{residual_size}
-use Rattle.kernels.specs.Kernel.{has_kernel}
 use Rattle.block.specs.Block.{column_at, row_at}
 use Rattle.block.specs.Lines.{LinesRoom, column_lines, row_lines}
 use Rattle.block.proofs.Accepted.{Accepted}
@@ -25,11 +24,11 @@ module _ {w h ck rk : ℕ} {residuals : List ℤ} {ls lo : ℕ} (a : Accepted w 
   small : (p : ℕ) → p < w * h → nat_abs (get_or residuals p (pos 0)) ≤ 4095
   small = residual_size (w * h) residuals a.small
 
-  pub columns_asked : LinesRoom w h (has_kernel ck h) (0 + w) w h (length residuals) ls
-  columns_asked = lines_asked a.wide a.high a.column_kernel (omega arith) refl a.residuals_long a.scratch_long
+  pub columns_asked : LinesRoom w h (0 + w) w h (length residuals) ls
+  columns_asked = lines_asked (omega arith) refl a.residuals_long a.scratch_long
 
-  pub rows_asked : LinesRoom w h (has_kernel rk w) (0 + h) h w ls lo
-  rows_asked = lines_asked a.wide a.high a.row_kernel (omega arith) (mul_comm h w) a.scratch_long a.output_long
+  pub rows_asked : LinesRoom w h (0 + h) h w ls lo
+  rows_asked = lines_asked (omega arith) (mul_comm h w) a.scratch_long a.output_long
 
   pub all_columns : (scratch : List ℤ) {s : List ℤ} → s ≡ column_lines w h ck residuals 0 w scratch
       → s ≡ laid scratch 0 (w * h) (λ p. column_at w h ck residuals (p / h) (p % h))

@@ -1,9 +1,8 @@
 -- Some lines of a block's passes, as batches run them: any residuals, and sums that wrap.
-use Rattle.std.specs.Prelude.{◌≡◌, Bool, true, List, ℕ, ◌+◌, ◌*◌, ◌/◌, ◌%◌, ◌≤◌, ℤ, pos, get_or}
+use Rattle.std.specs.Prelude.{Bool, cond, List, ℕ, ◌+◌, ◌*◌, ◌/◌, ◌%◌, ◌≤◌, ℤ, pos, get_or}
 use Rattle.laws.specs.Integer.{wrap32}
 use Rattle.laws.specs.Store.{laid}
 use Rattle.fixed.specs.Fixed.{scaled}
-use Rattle.sizes.specs.Size.{is_side}
 use Rattle.sizes.specs.Shift.{first_shift, second_shift}
 use Rattle.lines.specs.Pass.{pass_at, pass_lines}
 use Rattle.block.specs.Block.{rescaled}
@@ -17,12 +16,14 @@ unfoldable pub row_lines : ℕ → ℕ → ℕ → List ℤ → ℕ → ℕ → 
 row_lines w h rk scratch start count output =
     laid output (start * w) (count * w) (λ p. rescaled w h (pass_at rk w (second_shift w h) h scratch (start + p / w) (p % w)))
 
--- what the calls that write them ask: the sides, the kernel, where the lines end, out of count lines of n numbers, and that just these
--- lines lie within the two buffers
-pub record LinesRoom (w h : ℕ) (has : Bool) (end count n source target : ℕ) : Type 0 where
-  pub wide : is_side w ≡ true
-  pub high : is_side h ≡ true
-  pub kernel : has ≡ true
+-- lines of one of the passes: row lines, from the scratch buffer into the output, or column lines, from the residuals into scratch
+abbrev pub lines_of : ℕ → ℕ → ℕ → ℕ → Bool → List ℤ → ℕ → ℕ → List ℤ → List ℤ
+lines_of w h ck rk row source start count target =
+    cond row (row_lines w h rk source start count target) (column_lines w h ck source start count target)
+
+-- what the calls that write them ask: where the lines end, out of count lines of n numbers, and that just these lines lie within the two
+-- buffers
+pub record LinesRoom (w h end count n source target : ℕ) : Type 0 where
   pub ends : end ≤ count
   pub source_long : w * h + end ≤ count + source
   pub target_long : end * n ≤ target

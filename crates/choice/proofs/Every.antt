@@ -1,20 +1,18 @@
 -- What holds of every choice. Assumes nothing.
 use mathlib.Core.Bool.{Bool, true, false, cond}
-use mathlib.Core.List.{List, [], ◌∷◌}
+use mathlib.Core.List.{[], ◌∷◌}
 use mathlib.Core.Logic.{◌⊎◌, inl, inr, ⊎_elim}
 use mathlib.Core.Path.{◌≡◌, sym, ap, ◌∙◌}
 use Prim.Native.Nat.{ℕ}
 use native.Mathlib.Omega.{arith}
 use borrow.Author.Tests.{lt-ltb, le-ltb}
-use lib.IntN.{ℤ, pos, nat_abs}
-use lib.ListN.{length, get_or, take}
-use lib.Seq.{length-take-le, get_or-take}
+use lib.ListN.{length}
+use lib.Seq.{length-take-le}
 use Rattle.laws.proofs.Place.{split}
-use Rattle.laws.proofs.Sum.{sum_ℕ_same}
 use Rattle.laws.specs.Sum.{sum_ℕ}
 use Rattle.answer.specs.Answer.{refuses, lowest}
 use Rattle.choice.specs.Choice.{weight, are_near, choice_answer, lighter_of, Refusals, NoLevels, Lightest}
-use Rattle.choice.proofs.Accepted.{accepted, first_given, second_given}
+use Rattle.choice.proofs.Accepted.{accepted, first_given, second_given, weight_firsts}
 
 one_of : (a b c : Bool) (n k : ℕ) → lowest ((a, 8) ∷ (b, 3) ∷ (c, 11) ∷ []) n ≡ refuses k → (k ≡ 8) ⊎ (k ≡ 3) ⊎ (k ≡ 11)
 unfolding lowest
@@ -33,11 +31,6 @@ no_levels first second =
     let a = le-ltb (length first.now) 0 (omega arith) in
     let b = le-ltb (length second.now) 0 (omega arith) in
     (rw (a, b), rw (a, b))
-
--- the first levels weigh what they weigh where they stand
-weight_firsts : (n : ℕ) (l : List ℤ) → weight n (take n l) ≡ weight n l
-unfolding weight
-weight_firsts n l = sum_ℕ_same n (λ k. nat_abs (get_or (take n l) k (pos 0))) (λ k. nat_abs (get_or l k (pos 0))) (λ k h. ap nat_abs (get_or-take n l k (pos 0) h))
 
 pub lightest : Lightest
 lightest first second count n e =

@@ -1,81 +1,60 @@
 // The lighter of two trials: of two lent buffers of levels, the first levels of the one with the smaller sum of magnitudes.
 #![tactic(auto)]
 
-ghost use Rattle.std.specs.Prelude.{◌≡◌, ◌^◌, ◌≤◌, nat_abs, length};
+ghost use Rattle.std.specs.Prelude.{◌≡◌, true, false, ◌≤◌, length, MatchResult};
 ghost use Rattle.answer.specs.Answer.{told};
+ghost use Rattle.answer.specs.declared.Refusal.TheVariants.{BadRecord};
 ghost use Rattle.choice.specs.Choice.{weight, are_near, choice_answer, number_in, part_at, lighter_of};
 
 use answer::{Outcome, Refusal};
 
-// A level's magnitude.
-fn magnitude_of(level: i32) -> u32
-    ensures { (result ≡ nat_abs level) × (result ≤ 2 ^ 31) }
-{
-    if level >= 0 {
-        return level as u32;
-    }
-    (-1 - level) as u32 + 1
-}
-
-// What levels come to: whether each is within 2^30 of zero, and the sum of their magnitudes.
-#[derive(Drop)]
-struct Levels {
-    near: bool,
-    magnitude: u64,
-}
-
-// The first count levels. Their sum is made of two, of the magnitudes' lower and upper halves, and reach has bit 31 once a level isn't near: all
-// are numbers of 32 bits, so that the loop works on several levels at a time.
-fn sum_levels(count: usize, levels: &[i32]) -> Levels
-    requires { (count ≤ 1024) × (count ≤ length levels.now) }
-    ensures { (result.near ≡ are_near count levels.now) × (result.magnitude ≡ weight count levels.now) }
+// The sum of the levels' magnitudes, each of which is to be within 2^30 of zero: number 11's rule. The sum is made of two, of the magnitudes' lower
+// and upper halves, and reach has bit 31 once a level isn't near: all are numbers of 32 bits, so that the loop works on several levels at a time.
+fn weigh(levels: &[i32]) -> Result<u64, Refusal>
+    requires { length levels.now ≤ 1024 }
+    ensures { MatchResult result (λ sum. (are_near (length levels.now) levels.now ≡ true) × (sum ≡ weight (length levels.now) levels.now)) (λ why. (why ≡ BadRecord) × (are_near (length levels.now) levels.now ≡ false)) }
 {
     let mut lower: u32 = 0;
     let mut upper: u32 = 0;
     let mut reach: u32 = 0;
-    let mut i = 0;
-    while i < count {
-        let magnitude = magnitude_of(levels[i]);
+    for level in levels {
+        let magnitude = level.unsigned_abs();
         reach = (magnitude + 0x3FFF_FFFF) | reach;
         lower += magnitude % 65536;
         upper += magnitude / 65536;
-        i += 1;
     }
-    Levels {
-        near: reach < 0x8000_0000,
-        magnitude: 65536 * (upper as u64) + lower as u64,
+    if reach >= 0x8000_0000 {
+        return Err(Refusal::BadRecord);
     }
+    Ok(65536 * u64::from(upper) + u64::from(lower))
 }
 
 // Which of two buffers is the lighter by its first count levels: 0 the first, as on a tie, or 1 the second.
+#[tactic(auto, using(crate::proofs::Accepted::far_first, crate::proofs::Accepted::far_second, crate::proofs::Accepted::second_lighter, crate::proofs::Accepted::first_lighter), unfolding(crate::specs::Choice::choice_answer, answer::specs::Answer::lowest))]
 pub fn which(first: &[i32], second: &[i32], count: usize) -> Outcome
     ensures { told result ≡ choice_answer first.now second.now count }
 {
     if count > 1024 {
-        return Outcome::Refused(Refusal::ScanRange);
+        return Err(Refusal::ScanRange);
     }
     if (first.len() < count) | (second.len() < count) {
-        return Outcome::Refused(Refusal::ShortBuffer);
+        return Err(Refusal::ShortBuffer);
     }
-    let a = sum_levels(count, first);
-    let b = sum_levels(count, second);
-    if !(a.near & b.near) {
-        return Outcome::Refused(Refusal::BadRecord);
+    let a = weigh(&first[..count])?;
+    let b = weigh(&second[..count])?;
+    if b < a {
+        return Ok(1);
     }
-    if b.magnitude < a.magnitude {
-        return Outcome::Done(1);
-    }
-    Outcome::Done(0)
+    Ok(0)
 }
 
 // The number that a choice is refused by, or 0.
 pub fn refused_by(first: &[i32], second: &[i32], count: usize) -> u32
     ensures { result ≡ number_in (choice_answer first.now second.now count) }
 {
-    let answer = which(first, second, count);
-    match answer {
-        Outcome::Done(_) => 0,
-        Outcome::Refused(why) => answer::number(why),
+    match which(first, second, count) {
+        Ok(_) => 0,
+        Err(why) => u32::from(why),
     }
 }
 
@@ -83,12 +62,9 @@ pub fn refused_by(first: &[i32], second: &[i32], count: usize) -> u32
 pub fn lighter<'a>(first: &'a [i32], second: &'a [i32], count: usize) -> &'a [i32]
     ensures { part_at result ≡ lighter_of first.entry second.entry count }
 {
-    let answer = which(first, second, count);
-    let Outcome::Done(n) = answer else {
-        return &first[..0];
-    };
-    if n == 0 {
-        return &first[..count];
+    match which(first, second, count) {
+        Err(_) => &first[..0],
+        Ok(0) => &first[..count],
+        Ok(_) => &second[..count],
     }
-    &second[..count]
 }

@@ -8,7 +8,7 @@ use lib.IntN.{ℤ}
 use lib.ListN.{length}
 use Rattle.laws.proofs.Laid.{tab_ext}
 use Rattle.answer.specs.Answer.{told}
-use Rattle.answer.specs.declared.Outcome.{Outcome}
+use Rattle.answer.specs.Answer.{Outcome}
 use Rattle.tickets.specs.Batch.{batch_of}
 use Rattle.tickets.specs.Run.{State, state_at, Step, column_step, row_step, step}
 use Rattle.previews.specs.Calls.{Call, runs, looks, Turn, preview_turn, turn, nth, state_after, run}

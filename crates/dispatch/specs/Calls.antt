@@ -1,8 +1,8 @@
--- A list of calls on one lent ticket, batches through the entries and previews between them, and condition 3 of it.
+-- A list of calls on one lent ticket, batches by `run` and previews between them, and condition 3 of it.
 use Rattle.std.specs.Prelude.{◌≡◌, Bool, true, false, List, [], ℕ, suc, ◌<◌, ℤ, length}
 use Rattle.laws.specs.Store.{tab}
 use Rattle.answer.specs.Answer.{answers, told}
-use Rattle.answer.specs.declared.Outcome.{Outcome}
+use Rattle.answer.specs.Answer.{Outcome}
 use Rattle.tickets.specs.Batch.{batch_of, batch}
 use Rattle.tickets.specs.Open.{open_answer, new_ticket}
 use Rattle.tickets.specs.Run.{State, state_at}
@@ -11,7 +11,7 @@ use Rattle.previews.specs.Calls.{Call, runs, looks, preview_at, Run, nth}
 use Rattle.previews.specs.Condition3.{settled}
 use Rattle.dispatch.specs.Lent.{lent}
 
--- a batch, by the entries' contracts: it finds s, gives back o and leaves t. Of the two work buffers it writes one, the output for rows
+-- a batch, by the contract of `run` at `Batch::rows` and at `Batch::columns`: it finds s, gives back o and leaves t. Of the two work buffers it writes one, the output for rows
 -- and the scratch buffer for columns
 abbrev pub BatchCalled : List ℤ → State → Bool → ℕ → ℕ → Outcome → State → Type 0
 BatchCalled residuals s true start lines o t =

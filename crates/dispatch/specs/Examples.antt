@@ -2,7 +2,7 @@
 use Rattle.std.specs.Prelude.{◌≡◌, List, [], ◌∷◌, ℕ, ℤ}
 use Rattle.laws.specs.Store.{tab}
 use Rattle.answer.specs.Answer.{answers, refuses, told}
-use Rattle.answer.specs.declared.Outcome.{Outcome}
+use Rattle.answer.specs.Answer.{Outcome}
 use Rattle.tickets.specs.Open.{new_ticket}
 use Rattle.tickets.specs.Run.{State, state_at}
 use Rattle.previews.specs.Examples.{zeros, list}

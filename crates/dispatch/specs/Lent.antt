@@ -1,7 +1,7 @@
 -- "the dispatcher keeps one job ticket and lends it to be marked where it stands": what a call on a lent ticket gives back.
 use Rattle.std.specs.Prelude.{List, ℤ}
 use Rattle.answer.specs.Answer.{told}
-use Rattle.answer.specs.declared.Outcome.{Outcome}
+use Rattle.answer.specs.Answer.{Outcome}
 use Rattle.tickets.specs.Batch.{Given}
 use Rattle.tickets.specs.declared.Ticket.{Ticket}
 

@@ -1,21 +1,24 @@
 -- The machine's signed integers modulo a power of two: the bits of a number, and the number of some bits, are congruent to it; a shift left by 32 and back
 -- of 64 bits is the reduction to 32 bits. Assumes nothing.
-use mathlib.Core.Path.{◌≡◌, refl, sym, ap, ap₂, ◌∙◌, subst}
+use mathlib.Core.Path.{◌≡◌, refl, sym, ap, ◌∙◌, subst}
 use mathlib.Core.Bool.{Bool, true, false}
 use Prim.Native.Nat.{ℕ, zero, suc, ◌-◌, ◌*◌, ◌/◌, ◌%◌, ◌^◌, ◌≤◌, ◌<◌}
 use native.Mathlib.Nat.{mod-lt, lt_of_lt_of_le, lt_of_le_of_lt, one-mul, mod-eq_of_lt}
 use native.Mathlib.Omega.{arith}
-use lib.Dec.{ltb, lit<, lit≤}
+use lib.Dec.{ltb, lit≤}
 use lib.Pow.{pow_pos, pow-lt}
 use lib.Signed.{mag, shr_z, mag_shr}
-use lib.IntN.{ℤ, pos, negsuc, ◌+ℤ◌, ◌-ℤ◌, ◌*ℤ◌}
+use lib.IntN.{ℤ, pos, negsuc, ◌+ℤ◌, ◌*ℤ◌}
 use mir.Syntax.{Width, w8, w32, w64}
 use mir.Val.{Fits, SFits, to_z, of_z, bits, hbits, sel}
 use mir.ValLaws.{half_full, to_z-Fits}
 use mir.Facts.{to_z-of_z, sfits_widen, to_z_pos}
+use Rattle.std.specs.Int.{int_wrap, int_rem_euclid}
+use Rattle.std.specs.Int.RustNames.{unsigned_abs}
+use Rattle.std.proofs.lemmas.Int.{SFits-int_wrap}
 use Rattle.laws.specs.Integer.{floor_div, wrap32}
 use Rattle.laws.proofs.Ring.{lit, ◌⊕◌, ◌⊖◌, ◌⊗◌, ring₂}
-use Rattle.laws.proofs.Size.{sub_ℕ_lt, sub_ℕ_ge, pos_sub, mag_add, mag_sub, mag_mul}
+use Rattle.laws.proofs.Size.{sub_ℕ_lt, sub_ℕ_ge, pos_sub}
 use Rattle.laws.proofs.Divide.{floor_div_law, floor_div_exact, mag_floor_div}
 use Rattle.laws.proofs.Congruence.{Cong, cong_refl, cong_sym, cong_trans, cong_mul}
 use Rattle.laws.proofs.Wrap.{wrap32_unique, wrap32_fits}
@@ -80,11 +83,20 @@ shl_shr_32 x f = wrap32_unique (shr_z y (2 ^ 32)) x (record { sfits = small }) (
     small : mag (shr_z y (2 ^ 32)) < 2 ^ 31
     small = subst (λ (z : ℤ). mag z < 2 ^ 31) (sym (shr_floor y (2 ^ 32))) (mag_floor_div y (2 ^ 32) (2 ^ 31) (pow_pos 32) (to_z-Fits w64 n fits_n).sfits)
 
--- ---- what the needs ask
+-- what the library's `wrapping_add` and its like give: the remainder by 2 ^ 32, read as signed
+pub int_wrap_is : (z : ℤ) → int_wrap w32 z ≡ wrap32 z
+unfolding int_wrap
+int_wrap_is z = wrap32_unique (int_wrap w32 z) z (SFits-int_wrap w32 z) (cong_trans (to_z_cong w32 _ (record { fits = rem_lt z })) (rem_cong z))
+  where
+    rem_lt : (z : ℤ) → unsigned_abs (int_rem_euclid z (pos (2 ^ 32))) < 2 ^ 32
+    rem_lt (pos n) = mod-lt n (pow_pos 32)
+    rem_lt (negsuc n) = omega arith
 
--- a value of 32 bits read back from its bits, and then from those of 64
-pub wide : {z : ℤ} → SFits w32 z → SFits w64 (to_z w32 (of_z w32 z))
-wide {z} f = subst (λ (y : ℤ). SFits w64 y) (sym (to_z-of_z f)) (sfits_widen tt f)
+    rem_cong : (z : ℤ) → Cong (2 ^ 32) (pos (unsigned_abs (int_rem_euclid z (pos (2 ^ 32))))) z
+    rem_cong (pos n) = mod_cong n (2 ^ 32) (pow_pos 32)
+    rem_cong (negsuc n) = cong_sym (record { times = negsuc (n / 2 ^ 32); eq = floor_div_law (negsuc n) (2 ^ 32) (pow_pos 32) ∙ ap (λ (k : ℕ). pos k +ℤ negsuc (n / 2 ^ 32) *ℤ pos (2 ^ 32)) (omega arith) })
+
+-- ---- what the needs ask
 
 pub wrapped_fits : (v x : ℤ) → v ≡ wrap32 x → SFits w32 (to_z w64 (of_z w64 v))
 wrapped_fits v x e =
@@ -95,30 +107,6 @@ pub wrapped_read : (v x : ℤ) → v ≡ wrap32 x → to_z w32 (of_z w32 (to_z w
 wrapped_read v x e =
     ap (λ (y : ℤ). to_z w32 (of_z w32 (to_z w64 (of_z w64 y)))) e
     ∙ ap (λ (y : ℤ). to_z w32 (of_z w32 y)) (to_z-of_z {w = w64} (sfits_widen tt (wrap32_fits x))) ∙ to_z-of_z (wrap32_fits x)
-
-pub add_fits : {a b : ℤ} → SFits w32 a → SFits w32 b → SFits w64 (a +ℤ b)
-add_fits {a} {b} f g = record { sfits = lt_of_lt_of_le (mag_add a b (2 ^ 31) f.sfits g.sfits) (lit≤ tt) }
-
-pub sub_fits : {a b : ℤ} → SFits w32 a → SFits w32 b → SFits w64 (a -ℤ b)
-sub_fits {a} {b} f g = record { sfits = lt_of_lt_of_le (mag_sub a b (2 ^ 31) f.sfits g.sfits) (lit≤ tt) }
-
-pub mul_fits : {a b : ℤ} → SFits w32 a → SFits w32 b → SFits w64 (a *ℤ b)
-mul_fits {a} {b} f g = record { sfits = lt_of_le_of_lt (mag_mul a b (2 ^ 31) (2 ^ 31) f.sfits g.sfits) (lit< tt) }
-
--- an operand of 32 bits, as an operation of 64 bits reads it
-abbrev pub seen : ℤ → ℤ
-seen a = to_z w64 (of_z w64 (to_z w32 (of_z w32 a)))
-
-pub seen_is : {a : ℤ} → SFits w32 a → seen a ≡ a
-seen_is {a} f = ap (λ (y : ℤ). to_z w64 (of_z w64 y)) (to_z-of_z f) ∙ to_z-of_z {w = w64} (sfits_widen tt f)
-
--- an operation of 64 bits on two such operands: its need, and its result as the next operation reads it
-module _ (op : ℤ → ℤ → ℤ) {a b : ℤ} (f : SFits w32 a) (g : SFits w32 b) (h : SFits w64 (op a b)) where
-  pub op_fits : SFits w64 (op (seen a) (seen b))
-  op_fits = subst (λ (y : ℤ). SFits w64 y) (sym (ap₂ op (seen_is f) (seen_is g))) h
-
-  pub op_read : to_z w64 (of_z w64 (op (seen a) (seen b))) ≡ op a b
-  op_read = ap₂ (λ (x y : ℤ). to_z w64 (of_z w64 (op x y))) (seen_is f) (seen_is g) ∙ to_z-of_z h
 
 -- a value of w bits, read back from its bits; every part is explicit, since none can be found from a bound
 pub read_at : (w : Width) (z : ℤ) → mag z < 2 ^ hbits w → to_z w (of_z w z) ≡ z

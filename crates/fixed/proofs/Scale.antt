@@ -1,5 +1,5 @@
 -- The 5793 / 4096 rule at 64 bits: nothing overflows, and a number of at most 29 bits stays one of 32. Assumes nothing.
-use mathlib.Core.Path.{◌≡◌, sym, ap, ◌∙◌, subst}
+use mathlib.Core.Path.{◌≡◌, ap, ◌∙◌, subst}
 use Prim.Native.Nat.{ℕ, ◌+◌, ◌*◌, ◌^◌, ◌≤◌, ◌<◌}
 use native.Mathlib.Nat.{lt_of_le_of_lt, lt_of_lt_of_le}
 use native.Mathlib.Omega.{arith}
@@ -8,13 +8,13 @@ use lib.Signed.{mag, shr_z}
 use lib.IntN.{ℤ, pos, ◌+ℤ◌, ◌*ℤ◌, *ℤ_comm}
 use mir.Syntax.{w32, w64}
 use mir.Val.{SFits, to_z, of_z}
-use mir.Facts.{to_z-of_z}
+use mir.Facts.{to_z-of_z, sfits_widen}
 use Rattle.laws.specs.Integer.{wrap32}
 use Rattle.laws.proofs.Size.{mag_add, mag_mul}
 use Rattle.laws.proofs.Divide.{mag_floor_div}
 use Rattle.laws.proofs.Wrap.{wrap32_in}
 use Rattle.fixed.specs.Fixed.{floor_shift, scaled}
-use Rattle.fixed.proofs.Machine.{seen, seen_is, shr_read}
+use Rattle.fixed.proofs.Machine.{shr_read}
 
 -- the product, and the sum that is shifted
 module _ (v : ℤ) (h : ℕ) (small : mag v < h) where
@@ -31,23 +31,20 @@ module _ {v : ℤ} (f : SFits w32 v) where
   sum : SFits w64 (v *ℤ pos 5793 +ℤ pos 2048)
   sum = record { sfits = lt_of_lt_of_le (sum_size v (2 ^ 31) f.sfits) (lit≤ tt) }
 
-  -- what the code asks, in the order of its operations
-  pub product_fits : SFits w64 (seen v *ℤ pos 5793)
-  product_fits = subst (λ (y : ℤ). SFits w64 (y *ℤ pos 5793)) (sym (seen_is f)) product
+  -- what the code gives, from v as it reads it at 64 bits
+  module _ {x : ℤ} (e : x ≡ v) where
+    product_read : to_z w64 (of_z w64 (to_z w64 (of_z w64 x) *ℤ pos 5793)) ≡ v *ℤ pos 5793
+    product_read =
+        ap (λ (y : ℤ). to_z w64 (of_z w64 (to_z w64 (of_z w64 y) *ℤ pos 5793))) e
+        ∙ ap (λ (y : ℤ). to_z w64 (of_z w64 (y *ℤ pos 5793))) (to_z-of_z {w = w64} (sfits_widen tt f)) ∙ to_z-of_z product
 
-  product_read : to_z w64 (of_z w64 (seen v *ℤ pos 5793)) ≡ v *ℤ pos 5793
-  product_read = ap (λ (y : ℤ). to_z w64 (of_z w64 (y *ℤ pos 5793))) (seen_is f) ∙ to_z-of_z product
-
-  pub sum_fits : SFits w64 (to_z w64 (of_z w64 (seen v *ℤ pos 5793)) +ℤ pos 2048)
-  sum_fits = subst (λ (y : ℤ). SFits w64 (y +ℤ pos 2048)) (sym product_read) sum
-
-  pub scaled_read :
-      to_z w64 (of_z w64 (shr_z (to_z w64 (of_z w64 (to_z w64 (of_z w64 (seen v *ℤ pos 5793)) +ℤ pos 2048))) (2 ^ 12))) ≡ scaled v
-  unfolding scaled floor_shift
-  scaled_read =
-      ap (λ (y : ℤ). to_z w64 (of_z w64 (shr_z (to_z w64 (of_z w64 (y +ℤ pos 2048))) (2 ^ 12)))) product_read
-      ∙ shr_read w64 (v *ℤ pos 5793 +ℤ pos 2048) 12 sum.sfits
-      ∙ ap (λ (y : ℤ). floor_shift 12 (y +ℤ pos 2048)) (*ℤ_comm v (pos 5793))
+    pub scaled_read :
+        to_z w64 (of_z w64 (shr_z (to_z w64 (of_z w64 (to_z w64 (of_z w64 (to_z w64 (of_z w64 x) *ℤ pos 5793)) +ℤ pos 2048))) (2 ^ 12))) ≡ scaled v
+    unfolding scaled floor_shift
+    scaled_read =
+        ap (λ (y : ℤ). to_z w64 (of_z w64 (shr_z (to_z w64 (of_z w64 (y +ℤ pos 2048))) (2 ^ 12)))) product_read
+        ∙ shr_read w64 (v *ℤ pos 5793 +ℤ pos 2048) 12 sum.sfits
+        ∙ ap (λ (y : ℤ). floor_shift 12 (y +ℤ pos 2048)) (*ℤ_comm v (pos 5793))
 
 -- a number of at most 29 bits, scaled, is one of 32 bits
 pub scaled_fits : (v : ℤ) → mag v < 2 ^ 29 → SFits w32 (scaled v)

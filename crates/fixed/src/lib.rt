@@ -2,46 +2,65 @@
 // Each wrapping function folds to one machine instruction.
 #![tactic(auto)]
 
+mod limit;
+
 ghost use Rattle.std.specs.Prelude.{◌≡◌, ◌≤◌, ◌+ℤ◌, ◌-ℤ◌, ◌*ℤ◌};
 ghost use Rattle.laws.specs.Integer.{wrap32};
 ghost use Rattle.fixed.specs.Fixed.{round_shift, scaled};
 
+pub use limit::{all_within, is_within};
+
 // The low 32 bits of x, read as signed.
+#[inline(always)]
 fn wrap(x: i64) -> i32
     ensures { result ≡ wrap32 x }
 {
     ((x << 32) >> 32) as i32
 }
 
+// Document 01 names these three: "wrapping add and subtract, with a program-made wrapping product". Their clauses are over the integers.
+#[inline(always)]
 pub fn wrapping_add(a: i32, b: i32) -> i32
     ensures { result ≡ wrap32 (a +ℤ b) }
 {
-    wrap((a as i64) + (b as i64))
+    a.wrapping_add(b)
 }
 
+#[inline(always)]
 pub fn wrapping_sub(a: i32, b: i32) -> i32
     ensures { result ≡ wrap32 (a -ℤ b) }
 {
-    wrap((a as i64) - (b as i64))
+    a.wrapping_sub(b)
 }
 
+#[inline(always)]
 pub fn wrapping_mul(a: i32, b: i32) -> i32
     ensures { result ≡ wrap32 (a *ℤ b) }
 {
-    wrap((a as i64) * (b as i64))
+    wrap(i64::from(a) * i64::from(b))
 }
 
-// x / 2 ^ shift, rounded to the nearest, halves upward. The sum with the half wraps.
-pub fn round_shift(x: i32, shift: u32) -> i32
-    requires { (1 ≤ shift) × (shift ≤ 15) }
-    ensures { result ≡ round_shift shift x }
-{
-    wrapping_add(x, 1 << (shift - 1)) >> shift
+// The shift of a pass.
+#[derive(Clone, Copy)]
+pub struct Shift {
+    pub bits: u32,
+    ghost in_range: { (1 ≤ bits) × (bits ≤ 15) },
+}
+
+impl Shift {
+    // x / 2 ^ bits, rounded to the nearest, halves upward. The sum with the half wraps.
+    #[inline(always)]
+    pub fn round(self, x: i32) -> i32
+        ensures { result ≡ round_shift self.bits x }
+    {
+        wrapping_add(x, 1 << (self.bits - 1)) >> self.bits
+    }
 }
 
 // v times 5793 / 4096, which is close to the square root of 2, rounded. Worked at 64 bits.
+#[inline(always)]
 pub fn rect_scale(v: i32) -> i32
     ensures { result ≡ wrap32 (scaled v) }
 {
-    wrap(((v as i64) * 5793 + 2048) >> 12)
+    wrap((i64::from(v) * 5793 + 2048) >> 12)
 }

@@ -1,5 +1,6 @@
 pub mod Bits
 pub mod Examples
+pub mod Fill
 pub mod Listed
 pub mod Number
 pub mod Parse

@@ -1,163 +1,113 @@
-// What the program reads: three parts of its input, each with the number of its first word that is wrong, or 0.
-ghost use Rattle.std.specs.Prelude.{◌≤◌, length};
+// What the program reads.
+ghost use Rattle.std.specs.Prelude.{◌≤◌, IfOk};
 
 use super::decimal;
 use quant::Settings;
+use std::fmt;
+use text::{Number, Words};
 
-// A word that is a number from 0 to 4294967295, and the place behind it, where ok.
+// What a word should be.
+#[derive(Clone, Copy)]
+pub enum Wanted {
+    Whole,
+    Decimal,
+    Residual,
+}
+
+// A word that is wrong, by its number, and what it should be.
+#[derive(Clone, Copy)]
+pub struct Wrong {
+    pub word: usize,
+    pub wanted: Wanted,
+}
+
+fn description(wanted: Wanted) -> &'static str {
+    match wanted {
+        Wanted::Whole => "a whole number from 0 to 4294967295",
+        Wanted::Decimal => "a decimal number of at most 7 digits, such as 0.375",
+        Wanted::Residual => "one of at most 1024 residuals, a whole number",
+    }
+}
+
+impl fmt::Display for Wrong {
+    fn fmt<W: fmt::Write>(&self, f: &mut fmt::Formatter<W>) -> fmt::Result {
+        let word = self.word;
+        let wanted = description(self.wanted);
+        write!(f, "word {word} of the input should be {wanted}")
+    }
+}
+
+// A block, what is asked of it, and how many residuals it has.
 #[derive(Drop)]
-struct Unsigned {
-    ok: bool,
-    value: u32,
-    next: usize,
-}
-
-fn next_unsigned(words: &[u8], at: usize) -> Unsigned {
-    let word = text::next_word(words, at);
-    let size = word.size;
-    if size > 4294967295 {
-        return Unsigned {
-            ok: false,
-            value: 0,
-            next: word.next,
-        };
-    }
-    Unsigned {
-        ok: word.ok & !word.minus,
-        value: size as u32,
-        next: word.next,
-    }
-}
-
-// w, h, column kind, row kind and step.
-#[derive(Drop)]
-pub struct Sizes {
-    pub wrong: usize,
-    pub values: [u32; 5],
-    pub next: usize,
-}
-
-pub fn read_sizes(words: &[u8]) -> Sizes
-    ensures { result.wrong ≤ 5 }
-{
-    let mut values = [0u32; 5];
-    let mut next = 0;
-    let mut i = 0;
-    while i < 5 {
-        let word = next_unsigned(words, next);
-        if !word.ok {
-            return Sizes {
-                wrong: i + 1,
-                values,
-                next,
-            };
-        }
-        values[i] = word.value;
-        next = word.next;
-        i += 1;
-    }
-    Sizes {
-        wrong: 0,
-        values,
-        next,
-    }
-}
-
-// Factor, threshold and dead zone.
-#[derive(Drop)]
-pub struct Decimals {
-    pub wrong: usize,
-    pub values: Settings,
-    pub next: usize,
-}
-
-pub fn read_settings(words: &[u8], at: usize) -> Decimals
-    ensures { result.wrong ≤ 3 }
-{
-    let factor = decimal::next_decimal(words, at);
-    let threshold = decimal::next_decimal(words, factor.next);
-    let dead_zone = decimal::next_decimal(words, threshold.next);
-    let values = Settings {
-        factor: factor.value,
-        threshold: threshold.value,
-        dead_zone: dead_zone.value,
-    };
-    Decimals {
-        wrong: first_wrong(factor.ok, threshold.ok, dead_zone.ok),
-        values,
-        next: dead_zone.next,
-    }
-}
-
-fn first_wrong(a: bool, b: bool, c: bool) -> usize
-    ensures { result ≤ 3 }
-{
-    if !a {
-        1
-    } else if !b {
-        2
-    } else if !c {
-        3
-    } else {
-        0
-    }
-}
-
-// A word that is a number of 32 bits, and the place behind it, where ok.
-#[derive(Drop)]
-struct Signed {
-    ok: bool,
-    value: i32,
-    next: usize,
-}
-
-fn next_signed(words: &[u8], at: usize) -> Signed {
-    let word = text::next_word(words, at);
-    let value = text::narrow(text::signed(word.minus, word.size));
-    Signed {
-        ok: word.ok & (word.size <= 2147483647),
-        value,
-        next: word.next,
-    }
-}
-
-// The residuals, up to the end of the input.
-#[derive(Drop)]
-pub struct Residuals {
-    pub wrong: usize,
+pub struct Input {
+    pub w: usize,
+    pub h: usize,
+    pub column_kind: u32,
+    pub row_kind: u32,
+    pub step: u32,
+    pub settings: Settings,
+    pub residuals: [i32; 1024],
     pub count: usize,
+    ghost few: { count ≤ 1024 },
 }
 
-pub fn read_residuals(words: &[u8], at: usize, residuals: &mut [i32]) -> Residuals
-    requires { 1024 ≤ length residuals.old }
-    ensures { (result.wrong ≤ 1025) × (result.count ≤ 1024) }
+fn whole(words: &mut Words<'_>, word: usize) -> Result<u32, Wrong> {
+    let wanted = Wanted::Whole;
+    words
+        .number()
+        .and_then(Number::unsigned)
+        .ok_or(Wrong { word, wanted })
+}
+
+fn decimal(words: &mut Words<'_>, word: usize) -> Result<f32, Wrong> {
+    let wanted = Wanted::Decimal;
+    words
+        .next()
+        .and_then(decimal::parse)
+        .ok_or(Wrong { word, wanted })
+}
+
+fn settings(words: &mut Words<'_>) -> Result<Settings, Wrong> {
+    Ok(Settings {
+        factor: decimal(words, 6)?,
+        threshold: decimal(words, 7)?,
+        dead_zone: decimal(words, 8)?,
+    })
+}
+
+// The residuals, up to the end of the input: how many.
+fn residuals(words: &mut Words<'_>, residuals: &mut [i32; 1024]) -> Result<usize, Wrong>
+    ensures { IfOk result (λ count. count ≤ 1024) }
 {
-    let mut next = at;
-    let mut i = 0;
-    while i < 1024 {
-        if text::is_end(words, next) {
-            return Residuals { wrong: 0, count: i };
-        }
-        let word = next_signed(words, next);
-        if !word.ok {
-            return Residuals {
-                wrong: i + 1,
-                count: 0,
-            };
-        }
-        let value = word.value;
-        residuals[i] = value;
-        next = word.next;
-        i += 1;
-    }
-    if text::is_end(words, next) {
-        return Residuals {
-            wrong: 0,
-            count: 1024,
+    let wanted = Wanted::Residual;
+    for i in 0..1024 {
+        let Some(word) = words.next() else {
+            return Ok(i);
         };
+        let word = Number::parse(word).and_then(Number::signed);
+        residuals[i] = word.ok_or(Wrong {
+            word: 9 + i,
+            wanted,
+        })?;
     }
-    Residuals {
-        wrong: 1025,
+    match words.next() {
+        None => Ok(1024),
+        Some(_) => Err(Wrong { word: 1033, wanted }),
+    }
+}
+
+pub fn read(text: &[u8]) -> Result<Input, Wrong> {
+    let mut words = Words { left: text };
+    let mut input = Input {
+        w: whole(&mut words, 1)? as usize,
+        h: whole(&mut words, 2)? as usize,
+        column_kind: whole(&mut words, 3)?,
+        row_kind: whole(&mut words, 4)?,
+        step: whole(&mut words, 5)?,
+        settings: settings(&mut words)?,
+        residuals: [0i32; 1024],
         count: 0,
-    }
+    };
+    input.count = residuals(&mut words, &mut input.residuals)?;
+    Ok(input)
 }

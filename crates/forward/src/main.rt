@@ -7,109 +7,79 @@ mod input;
 mod output;
 mod scan;
 
-ghost use Rattle.forward.specs.Sized.{Sized};
-
-use answer::Outcome;
-use quant::Settings;
+use answer::{Outcome, Refusal};
+use input::Input;
+use output::Refused;
+use sizes::Size;
 use std::io;
-use text::print_text;
 
-// The levels of a block's coefficients.
-fn quantize(
-    rt: &impl Print,
-    w: usize,
-    h: usize,
-    step: u32,
-    settings: Settings,
-    coefficients: &[i32; 1024],
-) -> io::Result<()>
-    requires { Sized w h }
-{
-    let n = w * h;
-    let mut places = [0u16; 1024];
-    scan::fill(w, h, &mut places);
-    let mut levels = [0.0f32; 1024];
-    let mut magnitudes = [0.0f32; 1024];
-    let outcome = quant::quantize_to_levels(
-        w,
-        step,
-        settings,
+// The coefficients of a block.
+fn transform(input: &Input, coefficients: &mut [i32; 1024]) -> Result<Size, Refusal> {
+    let size = Size::new(input.w, input.h)?;
+    let mut scratch = [0i32; 1024];
+    block::block(
+        size.w,
+        size.h,
+        input.column_kind,
+        input.row_kind,
+        &input.residuals[..input.count],
+        &mut scratch,
         coefficients,
-        &places[..n],
-        &mut levels,
+    )?;
+    Ok(size)
+}
+
+// The levels of a block's coefficients, which stand column by column.
+fn quantize(
+    input: &Input,
+    size: Size,
+    coefficients: &[i32; 1024],
+    levels: &mut [f32; 1024],
+) -> Outcome {
+    let mut places = [0u16; 1024];
+    scan::fill(size, &mut places);
+    let mut magnitudes = [0.0f32; 1024];
+    quant::quantize_to_levels(
+        size.w,
+        input.step,
+        input.settings,
+        coefficients,
+        &places[..size.places()],
+        levels,
         &mut magnitudes,
-    );
-    print_text(rt, b"levels\n")?;
-    match outcome {
-        Outcome::Done(_) => output::print_levels(rt, w, h, &levels),
-        Outcome::Refused(why) => output::print_refused(rt, why),
-    }
+    )
 }
 
 // Both tables, or the refusal.
-fn transform(
-    rt: &impl Print,
-    sizes: [u32; 5],
-    settings: Settings,
-    residuals: &[i32],
-) -> io::Result<()> {
-    let w = sizes[0] as usize;
-    let h = sizes[1] as usize;
-    let mut scratch = [0i32; 1024];
+fn print_tables(rt: &impl Print, input: &Input) -> io::Result<()> {
     let mut coefficients = [0i32; 1024];
-    let outcome = block::block(
-        w,
-        h,
-        sizes[2],
-        sizes[3],
-        residuals,
-        &mut scratch,
-        &mut coefficients,
-    );
-    match outcome {
-        Outcome::Done(_) => {
-            print_text(rt, b"coefficients\n")?;
-            output::print_coefficients(rt, w, h, &coefficients)?;
-            quantize(rt, w, h, sizes[4], settings, &coefficients)
-        }
-        Outcome::Refused(why) => output::print_refused(rt, why),
+    let size = match transform(input, &mut coefficients) {
+        Ok(size) => size,
+        Err(why) => return println!(rt; "{}", Refused { why }),
+    };
+    println!(rt; "coefficients")?;
+    output::print_rows(rt, size, &coefficients)?;
+    println!(rt; "levels")?;
+    let mut levels = [0.0f32; 1024];
+    match quantize(input, size, &coefficients, &mut levels) {
+        Ok(_) => output::print_rows(rt, size, &scan::by_rows(size, &levels)),
+        Err(why) => println!(rt; "{}", Refused { why }),
     }
 }
 
 // Reads the words and does the work, or says which word is wrong.
-fn run(rt: &impl Print, words: &[u8]) -> io::Result<()> {
-    let sizes = input::read_sizes(words);
-    if sizes.wrong > 0 {
-        return output::print_wanted(rt, sizes.wrong, b"a whole number from 0 to 4294967295");
+fn run(rt: &impl Print, text: &[u8]) -> io::Result<()> {
+    match input::read(text) {
+        Ok(input) => print_tables(rt, &input),
+        Err(wrong) => println!(rt; "{wrong}"),
     }
-    let settings = input::read_settings(words, sizes.next);
-    if settings.wrong > 0 {
-        return output::print_wanted(
-            rt,
-            5 + settings.wrong,
-            b"a decimal number of at most 7 digits, such as 0.375",
-        );
-    }
-    let mut residuals = [0i32; 1024];
-    let got = input::read_residuals(words, settings.next, &mut residuals);
-    if got.wrong > 0 {
-        return output::print_wanted(
-            rt,
-            8 + got.wrong,
-            b"one of at most 1024 residuals, a whole number",
-        );
-    }
-    let values = sizes.values;
-    let quantizer = settings.values;
-    let count = got.count;
-    transform(rt, values, quantizer, &residuals[..count])
 }
 
 fn main(rt: HostRuntime) -> io::Result<()> {
-    let mut words = [0u8; 65536];
-    let n = text::read_full(&mut rt.reader(), &mut words)?;
+    let mut text = [0u8; 65536];
+    let n = text::read_full(&mut rt.reader(), &mut text)?;
     if n == 65536 {
-        return print_text(&rt, b"the input should be shorter than 65536 bytes\n");
+        return println!(rt; "the input should be shorter than 65536 bytes");
     }
-    run(&rt, &words[..n])
+    run(&rt, &text[..n])
 }

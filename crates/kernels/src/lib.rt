@@ -1,12 +1,16 @@
 // The transform kernels, as tables. A pass takes its table once and lends it to its loops.
 #![tactic(auto)]
 
-ghost use Rattle.std.specs.Prelude.{◌≡◌};
+ghost use Rattle.std.specs.Prelude.{◌≡◌, true, false, MatchResult};
+ghost use Rattle.answer.specs.declared.Refusal.TheVariants.{BadKind};
 ghost use Rattle.kernels.specs.Dct.{dct32, dct_rows};
 ghost use Rattle.kernels.specs.Kernel.{has_kernel};
+ghost use Rattle.kernels.specs.Kind.{kind_number};
 ghost use Rattle.kernels.specs.Adst.{adst16, adst8, adst4};
 
-const DCT32: [i8; 1024] = [
+use answer::Refusal;
+
+static DCT32: [i8; 1024] = [
     64, 64, 64, 64, 64, 64, 64, 64, 64, 64, 64, 64, 64, 64, 64, 64, 64, 64, 64, 64, 64, 64, 64, 64,
     64, 64, 64, 64, 64, 64, 64, 64, 90, 90, 88, 85, 82, 78, 73, 67, 61, 54, 47, 39, 30, 22, 13, 4,
     -4, -13, -22, -30, -39, -47, -54, -61, -67, -73, -78, -82, -85, -88, -90, -90, 90, 87, 80, 70,
@@ -59,13 +63,15 @@ const DCT32: [i8; 1024] = [
 ];
 
 // The DCT kernel of side 32, row by row: place f × 32 + k.
-pub fn dct32() -> [i8; 1024]
-    ensures { result ≡ dct32 }
+#[tactic(auto, unfolding(crate::specs::Dct::dct32))]
+#[inline(always)]
+pub fn dct32() -> &'static [i8; 1024]
+    ensures { result.now ≡ dct32 }
 {
-    DCT32
+    &DCT32
 }
 
-const DCT16: [i8; 256] = [
+static DCT16: [i8; 256] = [
     64, 64, 64, 64, 64, 64, 64, 64, 64, 64, 64, 64, 64, 64, 64, 64, 90, 87, 80, 70, 57, 43, 26, 9,
     -9, -26, -43, -57, -70, -80, -87, -90, 89, 75, 50, 18, -18, -50, -75, -89, -89, -75, -50, -18,
     18, 50, 75, 89, 87, 57, 9, -43, -80, -90, -70, -26, 26, 70, 90, 80, 43, -9, -57, -87, 83, 35,
@@ -81,37 +87,43 @@ const DCT16: [i8; 256] = [
 ];
 
 // That of side 16: place f × 16 + k.
-pub fn dct16() -> [i8; 256]
-    ensures { result ≡ dct_rows 16 16 }
+#[tactic(auto, unfolding(crate::specs::Dct::dct32, crate::specs::Dct::dct_rows))]
+#[inline(always)]
+pub fn dct16() -> &'static [i8; 256]
+    ensures { result.now ≡ dct_rows 16 16 }
 {
-    DCT16
+    &DCT16
 }
 
-const DCT8: [i8; 64] = [
+static DCT8: [i8; 64] = [
     64, 64, 64, 64, 64, 64, 64, 64, 89, 75, 50, 18, -18, -50, -75, -89, 83, 35, -35, -83, -83, -35,
     35, 83, 75, -18, -89, -50, 50, 89, 18, -75, 64, -64, -64, 64, 64, -64, -64, 64, 50, -89, 18,
     75, -75, -18, 89, -50, 35, -83, 83, -35, -35, 83, -83, 35, 18, -50, 75, -89, 89, -75, 50, -18,
 ];
 
 // That of side 8: place f × 8 + k.
-pub fn dct8() -> [i8; 64]
-    ensures { result ≡ dct_rows 8 8 }
+#[tactic(auto, unfolding(crate::specs::Dct::dct32, crate::specs::Dct::dct_rows))]
+#[inline(always)]
+pub fn dct8() -> &'static [i8; 64]
+    ensures { result.now ≡ dct_rows 8 8 }
 {
-    DCT8
+    &DCT8
 }
 
-const DCT4: [i8; 16] = [
+static DCT4: [i8; 16] = [
     64, 64, 64, 64, 83, 35, -35, -83, 64, -64, -64, 64, 35, -83, 83, -35,
 ];
 
 // That of side 4: place f × 4 + k.
-pub fn dct4() -> [i8; 16]
-    ensures { result ≡ dct_rows 4 4 }
+#[tactic(auto, unfolding(crate::specs::Dct::dct32, crate::specs::Dct::dct_rows))]
+#[inline(always)]
+pub fn dct4() -> &'static [i8; 16]
+    ensures { result.now ≡ dct_rows 4 4 }
 {
-    DCT4
+    &DCT4
 }
 
-const ADST16: [i8; 256] = [
+static ADST16: [i8; 256] = [
     8, 17, 25, 33, 41, 48, 55, 62, 67, 73, 77, 81, 84, 87, 88, 89, 25, 48, 67, 81, 88, 88, 81, 67,
     48, 25, 0, -25, -48, -67, -81, -88, 41, 73, 88, 84, 62, 25, -17, -55, -81, -89, -77, -48, -8,
     33, 67, 87, 55, 87, 81, 41, -17, -67, -89, -73, -25, 33, 77, 88, 62, 8, -48, -84, 67, 88, 48,
@@ -127,39 +139,60 @@ const ADST16: [i8; 256] = [
 ];
 
 // The ADST kernel of side 16: place f × 16 + k.
-pub fn adst16() -> [i8; 256]
-    ensures { result ≡ adst16 }
+#[tactic(auto, unfolding(crate::specs::Adst::adst16))]
+#[inline(always)]
+pub fn adst16() -> &'static [i8; 256]
+    ensures { result.now ≡ adst16 }
 {
-    ADST16
+    &ADST16
 }
 
-const ADST8: [i8; 64] = [
+static ADST8: [i8; 64] = [
     11, 34, 54, 71, 84, 88, 79, 50, 28, 74, 89, 68, 17, -44, -83, -69, 44, 89, 48, -41, -89, -44,
     50, 81, 58, 76, -34, -86, 10, 88, 6, -84, 70, 39, -87, 1, 86, -44, -59, 78, 79, -12, -66, 87,
     -35, -44, 86, -62, 86, -58, 12, 38, -75, 88, -74, 40, 89, -86, 79, -70, 58, -44, 29, -14,
 ];
 
 // That of side 8, turned: place k × 8 + f.
-pub fn adst8() -> [i8; 64]
-    ensures { result ≡ adst8 }
+#[tactic(auto, unfolding(crate::specs::Adst::adst8))]
+#[inline(always)]
+pub fn adst8() -> &'static [i8; 64]
+    ensures { result.now ≡ adst8 }
 {
-    ADST8
+    &ADST8
 }
 
-const ADST4: [i8; 16] = [
+static ADST4: [i8; 16] = [
     18, 50, 75, 89, 50, 89, 18, -75, 75, 18, -89, 50, 89, -75, 50, -18,
 ];
 
 // That of side 4: place f × 4 + k.
-pub fn adst4() -> [i8; 16]
-    ensures { result ≡ adst4 }
+#[tactic(auto, unfolding(crate::specs::Adst::adst4))]
+#[inline(always)]
+pub fn adst4() -> &'static [i8; 16]
+    ensures { result.now ≡ adst4 }
 {
-    ADST4
+    &ADST4
 }
 
-// Whether there is a kernel of a kind at side n.
-pub fn has_kernel(kind: u32, n: usize) -> bool
-    ensures { result ≡ has_kernel kind n }
-{
-    (kind == 0) | ((kind == 1) & (n != 32))
+// The kind of a transform.
+#[derive(Clone, Copy)]
+pub enum Kind {
+    Dct,
+    Adst,
+}
+
+impl Kind {
+    // The kind of a number, which is to have a kernel at side n: number 2's rule. Public calls take the number, since they refuse any other than 0 and 1.
+    #[inline(always)]
+    #[tactic(auto, unfolding(crate::specs::Kernel::has_kernel))]
+    pub fn new(number: u32, n: usize) -> Result<Kind, Refusal>
+        ensures { MatchResult result (λ kind. (kind_number kind ≡ number) × (has_kernel number n ≡ true)) (λ why. (why ≡ BadKind) × (has_kernel number n ≡ false)) }
+    {
+        match number {
+            0 => Ok(Kind::Dct),
+            1 if n != 32 => Ok(Kind::Adst),
+            _ => Err(Refusal::BadKind),
+        }
+    }
 }

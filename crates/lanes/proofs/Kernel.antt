@@ -7,7 +7,7 @@ use lib.Arith.{digits_lt}
 use lib.IntN.{ℤ}
 use Rattle.kernels.specs.Dct.{dct32, dct_rows}
 use Rattle.kernels.proofs.Dct.{rows_at, rows_length, whole_at}
-use Rattle.lines.proofs.Stage.{IsKernel}
+use Rattle.lines.specs.Stage.{IsKernel}
 
 pub lent_rows : (n : ℕ) → 0 < n → n ≤ 32 → {ts : List ℤ} → ts ≡ dct_rows n n → IsKernel n n ts
 lent_rows n some small {ts} e =

@@ -1,14 +1,15 @@
 -- A list with another put over it from a place on. Assumes nothing.
 use mathlib.Core.List.{List, [], ◌∷◌, ◌++◌, append-nil, append_assoc}
 use mathlib.Core.Path.{◌≡◌, refl, sym, ap, ap₂, ◌∙◌}
-use Prim.Native.Nat.{ℕ, zero, suc, ◌+◌, ◌≤◌, ◌<◌}
+use Prim.Native.Nat.{ℕ, zero, suc, ◌+◌, ◌-◌, ◌≤◌, ◌<◌}
 use native.Mathlib.Nat.{add-zero, add-suc, add_assoc}
 use native.Mathlib.Numerals.{add-one}
 use native.Mathlib.Omega.{arith}
 use lib.ListN.{length, get_or, set, take, drop, length-append, length-drop, take-append-drop}
 use lib.Seq.{ext_get_or, set_split, length-take-le, take_at, drop_at, take-take, drop-drop, take-append-le, drop-append_seam}
-use Rattle.laws.proofs.Laid.{length_tab, get_or_tab}
-use Rattle.laws.specs.Store.{tab, laid, pasted}
+use borrow.Rule.Slice.PartMut.{put_mid, Post-is}
+use Rattle.laws.proofs.Laid.{length_tab, get_or_tab, stores_laid}
+use Rattle.laws.specs.Store.{tab, laid, pasted, stores}
 
 module _ {A : Type 0} where
   pub pasted_none : (d : List A) (at : ℕ) → d ≡ pasted d at []
@@ -124,3 +125,18 @@ pub tab_get_or : {A : Type 0} (l : List A) (n : ℕ) (z : A) → length l ≡ n 
 tab_get_or l n z e =
     ext_get_or z (tab n (λ p. get_or l p z)) l (length_tab n (λ p. get_or l p z) ∙ sym e)
     (λ i b. get_or_tab n (λ p. get_or l p z) i z (omega (arith, length_tab n (λ p. get_or l p z))))
+
+-- a list whose part from at to e was lent and holds l when it is back
+pub spliced : {A : Type 0} (d l : List A) (at e : ℕ) → e ≡ at + length l → put_mid at (e - at) d l ≡ pasted d at l
+unfolding pasted
+spliced d l at e u = ap (λ t. take at d ++ (l ++ t)) (Post-is at e d (omega arith) ∙ ap (λ i. drop i d) u)
+
+-- and where l was copied into it
+pub copied : {A : Type 0} (d : List A) (at n : ℕ) (z : A) {o l : List A} → length o ≡ n → l ≡ o → at + n ≤ length d
+    → put_mid at (at + n - at) d l ≡ stores d n (λ k. at + k) (λ p. get_or o p z)
+copied d at n z {o} {l} long e room =
+    ap (λ t. put_mid at (at + n - at) d t) e
+    ∙ spliced d o at (at + n) (omega arith)
+    ∙ ap (pasted d at) (sym (tab_get_or o n z long))
+    ∙ sym (pasted_laid d at n (λ p. get_or o p z))
+    ∙ sym (stores_laid d at n (omega arith) z (λ p. get_or o p z))

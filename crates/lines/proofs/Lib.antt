@@ -1,4 +1,5 @@
 pub mod Arm
+pub mod Chain
 pub mod From
 pub mod Line
 pub mod Loop

@@ -13,8 +13,7 @@ use Rattle.fixed.specs.Fixed.{round_shift}
 use Rattle.kernels.specs.Kernel.{kernel}
 use Rattle.lines.specs.Line.{line_at, row_sum, place, rounded, InReach, from, number}
 use Rattle.lines.specs.Pass.{pass_sum, pass_at}
-use Rattle.lines.proofs.Reach.{reaches}
-use Rattle.lines.proofs.Stage.{dct_sum, Finished}
+use Rattle.lines.specs.Stage.{dct_sum, Finished}
 use Rattle.lines.specs.Room.{LineRoom, Reading, on_line}
 
 -- the frequencies from 0 on, one after another
@@ -28,18 +27,17 @@ unfolding pass_at pass_sum kernel dct_sum
 dct_line n shift line j to src dst {o} e u = u ∙ stores_ext dst n (from (to * n)) (number o) (pass_at 0 n shift line src j) e.at
 
 -- where it is stored
-pub line_place : {n line j shift ls to ld : ℕ} → LineRoom n line j shift ls to ld → to * n ≤ 1024
+pub line_place : {n line j ls to ld : ℕ} → LineRoom n line j ls to ld → to * n ≤ 1024
 line_place r = mul-le-mul r.few r.side
 
 -- an ADST's dense sums
 module _ (n line j shift : ℕ) (src : List ℤ) {fs ks : ℕ} {ts : List ℤ} (reading : Reading n fs ks ts) where
-  pub dense_reach : {ls to ld : ℕ} → LineRoom n line j shift ls to ld → InReach n 0 1 n fs ks j line (length ts) ls 16
+  pub dense_reach : {ls to ld : ℕ} → LineRoom n line j ls to ld → InReach n 0 1 n fs ks (length ts) n
   dense_reach r =
       record {
         some = r.some;
         table = λ f k a b. rw (plain f) (reading.inside f k a b);
-        line = λ k a. reaches k a r.src;
-        stored = λ f a. let s = reading.small in omega arith;
+        stored = λ f a. omega arith;
       }
 
   sum_is : (f : ℕ) → f < n → rounded shift n ts 0 1 fs ks src j line f ≡ pass_at 1 n shift line src j f

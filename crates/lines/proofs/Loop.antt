@@ -47,41 +47,41 @@ module _ {kind n shift line : ℕ} {src : List ℤ} {start first : ℕ} where
 -- ---- lines stored where they belong: line j as line j
 
 -- count lines from start on end within dst
-pub lines_end : {n line start count shift ls ld : ℕ} → Room n line start count shift ls ld → start * n + count * n ≤ ld
+pub lines_end : {n line start count ls ld : ℕ} → Room n line start count ls ld → start * n + count * n ≤ ld
 lines_end {n} {line} {start} {count} r = let d = r.dst in omega (arith, add-mul start count n)
 
 -- m of them, from the i-th on
-pub some_lines : {n line start count shift ls ld : ℕ} (i m : ℕ) → Room n line start count shift ls ld → i + m ≤ count
-    → Room n line (start + i) m shift ls ld
+pub some_lines : {n line start count ls ld : ℕ} (i m : ℕ) → Room n line start count ls ld → i + m ≤ count
+    → Room n line (start + i) m ls ld
 some_lines {n} {line} {start} {count} i m r b =
     let e = r.ends in let s = r.src in let d = r.dst in
     let u : (start + i + m) * n ≤ (start + count) * n = mul-le-mul_right n (omega arith) in
-    record { small = r.small; ends = omega arith; src = omega arith; dst = omega arith; low = r.low; high = r.high }
+    record { small = r.small; ends = omega arith; src = omega arith; dst = omega arith }
 
 -- one of them, the i-th, stored as line to of a buffer of length lo
-line_within : {n line start count shift ls ld i to lo : ℕ} → 0 < n → n ≤ 32 → Room n line start count shift ls ld → i < count → to ≤ 32
-    → to * n + n ≤ lo → LineRoom n line (start + i) shift ls to lo
+line_within : {n line start count ls ld i to lo : ℕ} → 0 < n → n ≤ 32 → Room n line start count ls ld → i < count → to ≤ 32
+    → to * n + n ≤ lo → LineRoom n line (start + i) ls to lo
 line_within some side r b few room =
     let s = r.src in
-    record { some = some; side = side; src = record { last = omega arith }; few = few; dst = room; low = r.low; high = r.high }
+    record { some = some; side = side; src = record { last = omega arith }; few = few; dst = room }
 
 module _ {kind n shift line : ℕ} {src : List ℤ} {start : ℕ} where
   -- the next line lies within the buffers
-  pub next_line : {i count ls : ℕ} {dst dst₀ : List ℤ} → 0 < n → n ≤ 32 → Room n line start count shift ls (length dst₀) → i < count
-      → Written kind n shift line src start start i dst dst₀ → LineRoom n line (start + i) shift ls (start + i) (length dst)
+  pub next_line : {i count ls : ℕ} {dst dst₀ : List ℤ} → 0 < n → n ≤ 32 → Room n line start count ls (length dst₀) → i < count
+      → Written kind n shift line src start start i dst dst₀ → LineRoom n line (start + i) ls (start + i) (length dst)
   next_line {i} {count} some side r b w =
       let s = r.small in let e = r.ends in let l = same_long w in
       let m : (i + 1) * n ≤ count * n = mul-le-mul_right n (omega arith) in
       line_within some side r b (omega arith) (omega (arith, lines_end r, add-mul start i n, add-mul i 1 n, one-mul n))
 
-  pub all_lines : {i count ls : ℕ} {dst dst₀ : List ℤ} → 0 < n → Room n line start count shift ls (length dst₀) → i ≡ count
+  pub all_lines : {i count ls : ℕ} {dst dst₀ : List ℤ} → 0 < n → Room n line start count ls (length dst₀) → i ≡ count
       → Written kind n shift line src start start i dst dst₀ → dst ≡ pass_lines kind n shift line src start count dst₀
   unfolding pass_lines
   all_lines {i} {count} {ls} {dst} {dst₀} some r e w =
       all_laid some (lines_end r) (subst (λ (k : ℕ). Written kind n shift line src start start k dst dst₀) e w)
 
   -- m lines more, of those that are asked
-  more_lines : {i count ls : ℕ} (m : ℕ) {dst dst₀ dst' : List ℤ} → 0 < n → Room n line start count shift ls (length dst₀) → i + m ≤ count
+  more_lines : {i count ls : ℕ} (m : ℕ) {dst dst₀ dst' : List ℤ} → 0 < n → Room n line start count ls (length dst₀) → i + m ≤ count
       → Written kind n shift line src start start i dst dst₀ → dst' ≡ pass_lines kind n shift line src (start + i) m dst
       → Written kind n shift line src start start (i + m) dst' dst₀
   unfolding pass_lines
@@ -103,9 +103,9 @@ module _ {kind n shift line : ℕ} {src : List ℤ} {start : ℕ} where
 
 -- ---- lines from j on that are staged as lines 0, 1, .. of o, and then stored
 
-pub next_staged : {n line j m shift ls ld q lo : ℕ} → 0 < n → n ≤ 32 → Room n line j m shift ls ld → m * n ≤ lo → q < m
-    → LineRoom n line (j + q) shift ls q lo
-next_staged {n} {line} {j} {m} {shift} {ls} {ld} {q} some side r room b =
+pub next_staged : {n line j m ls ld q lo : ℕ} → 0 < n → n ≤ 32 → Room n line j m ls ld → m * n ≤ lo → q < m
+    → LineRoom n line (j + q) ls q lo
+next_staged {n} {line} {j} {m} {ls} {ld} {q} some side r room b =
     let s = r.small in let e = r.ends in
     let u : (q + 1) * n ≤ m * n = mul-le-mul_right n (omega arith) in
     line_within some side r b (omega arith) (omega (arith, add-mul q 1 n, one-mul n))
@@ -116,7 +116,7 @@ one_staged kind n shift line src j q {o} w e =
     one_more w (e ∙ ap (λ (i : ℕ). stores o n (on_line n i) (pass_at kind n shift line src (j + q))) (sym (zero-add q)))
 
 staged : {kind n shift line : ℕ} {src : List ℤ} {j m ls : ℕ} {o zeros dst' : List ℤ} (dst : List ℤ) → 0 < n → m * n ≤ length zeros
-    → Room n line j m shift ls (length dst) → Written kind n shift line src j 0 m o zeros
+    → Room n line j m ls (length dst) → Written kind n shift line src j 0 m o zeros
     → dst' ≡ stores dst (m * n) (from (j * n)) (number o) → dst' ≡ pass_lines kind n shift line src j m dst
 unfolding pass_lines
 staged {kind} {n} {shift} {line} {src} {j} {m} {ls} {o} {zeros} dst some short r w e =
@@ -132,21 +132,13 @@ staged {kind} {n} {shift} {line} {src} {j} {m} {ls} {o} {zeros} dst some short r
         ∙ laid_at zeros (0 * n) (m * n) at (omega (arith, zero-mul n)) p (pos 0) b
 
 -- m lines more by way of o
-pub staged_more : {kind n shift line : ℕ} {src : List ℤ} {start i count ls q : ℕ} (m : ℕ) {o zeros dst dst₀ dst' : List ℤ} → 0 < n
-    → m * n ≤ length zeros → Room n line start count shift ls (length dst₀) → i + m ≤ count
+pub staged_more : {kind n shift line : ℕ} {src : List ℤ} {start i count ls q : ℕ} (m : ℕ) {o zeros dst dst₀ dst' : List ℤ}
+    → 0 < n → m * n ≤ length zeros → Room n line start count ls (length dst₀) → i + m ≤ count
     → Written kind n shift line src start start i dst dst₀ → q ≡ m → Written kind n shift line src (start + i) 0 q o zeros
     → dst' ≡ stores dst (m * n) (from ((start + i) * n)) (number o)
     → Written kind n shift line src start start (i + m) dst' dst₀
 staged_more {kind} {n} {shift} {line} {src} {start} {i} {count} {ls} m {o} {zeros} {dst} some short r b w all s e =
     more_lines m some r b w
     (staged dst some short
-    (some_lines i m (subst (λ (l : ℕ). Room n line start count shift ls l) (sym (same_long w)) r) b)
+    (some_lines i m (subst (λ (l : ℕ). Room n line start count ls l) (sym (same_long w)) r) b)
     (subst (λ (k : ℕ). Written kind n shift line src (start + i) 0 k o zeros) all s) e)
-
--- lines from 0 on
-pub line_0 : {n line j shift ls ld : ℕ} → LineRoom n line (0 + j) shift ls (0 + j) ld → LineRoom n line j shift ls j ld
-line_0 {n} {line} {j} {shift} {ls} {ld} r = subst (λ (i : ℕ). LineRoom n line i shift ls i ld) (zero-add j) r
-
-pub stored_0 : (kind n shift line : ℕ) (src dst : List ℤ) (j : ℕ) {d : List ℤ} → d ≡ stores dst n (on_line n j) (pass_at kind n shift line src j)
-    → d ≡ stores dst n (on_line n (0 + j)) (pass_at kind n shift line src (0 + j))
-stored_0 kind n shift line src dst j e = e ∙ ap (λ (i : ℕ). stores dst n (on_line n i) (pass_at kind n shift line src i)) (sym (zero-add j))

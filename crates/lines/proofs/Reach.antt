@@ -1,6 +1,6 @@
 -- Where the pieces of a line read and store lies within their buffers. Assumes nothing.
-use mathlib.Core.Path.{◌≡◌}
-use Prim.Native.Nat.{ℕ, ◌+◌, ◌*◌, ◌≤◌, ◌<◌}
+use mathlib.Core.Path.{◌≡◌, ap}
+use Prim.Native.Nat.{ℕ, ◌+◌, ◌-◌, ◌*◌, ◌≤◌, ◌<◌}
 use native.Mathlib.Nat.{zero-mul, mul-one, one-mul, add-mul, mul-le-mul_left, mul-le-mul_right}
 use native.Mathlib.Omega.{arith}
 use mathlib.Core.List.{List}
@@ -8,7 +8,8 @@ use lib.Arith.{digits_lt}
 use lib.IntN.{ℤ}
 use lib.ListN.{length}
 use Rattle.lines.specs.Line.{EndsIn, place, InReach, Halving}
-use Rattle.lines.proofs.Stage.{IsKernel, odd_place}
+use Rattle.lines.specs.Stage.{IsKernel}
+use Rattle.lines.proofs.Stage.{odd_place}
 
 -- number k of a line that ends within a list stands within it
 pub reaches : {n stride at l : ℕ} (k : ℕ) → k < n → EndsIn n stride at l → k * stride + at < l
@@ -19,26 +20,32 @@ reaches {n} {stride} k b e =
 pub whole : (m : ℕ) {l : ℕ} → m ≤ l → EndsIn m 1 0 l
 whole m b = record { last = omega (arith, mul-one m) }
 
-pub zeroth_reach : (n : ℕ) {lt lx lo : ℕ} → 0 < lt → 0 < lx → 0 < lo → InReach 1 0 1 1 n 1 0 1 lt lx lo
-zeroth_reach n a b c =
+pub zeroth_reach : {fs lt lo : ℕ} → 0 < lt → 0 < lo → InReach 1 0 1 1 fs 1 lt lo
+zeroth_reach {fs} a b =
     record {
       some = omega arith;
       table = λ r k i j. let z : r ≡ 0 = omega arith in let e = row r z in omega arith;
-      line = λ k i. omega arith;
       stored = λ r i. omega arith;
     }
   where
-    row : (r : ℕ) → r ≡ 0 → place 0 1 r * n ≡ 0
-    row r z = rw z (zero-mul n)
+    row : (r : ℕ) → r ≡ 0 → place 0 1 r * fs ≡ 0
+    row r z = rw z (zero-mul fs)
+
+-- a row of a table within reach
+pub row_ends : {count first apart taps fs ks lt lo : ℕ} (r : ℕ) → r < count → InReach count first apart taps fs ks lt lo
+    → EndsIn taps ks (place first apart r * fs) lt
+row_ends {count} {first} {apart} {taps} {fs} {ks} r b reach =
+    let t = reach.table r (taps - 1) b (omega (arith, reach.some)) in
+    let m : taps * ks ≡ (taps - 1 + 1) * ks = ap (λ (k : ℕ). k * ks) (omega (arith, reach.some)) in
+    record { last = omega (arith, add-mul (taps - 1) 1 ks, one-mul ks) }
 
 -- a stage's odd frequencies, where the table is that of side n
-odds_reach : (n h s : ℕ) {fs lx lo : ℕ} {ts : List ℤ} → n ≡ 2 * h * s → 0 < h → 0 < s → IsKernel n fs ts → h ≤ lx → n ≤ lo
-    → InReach h s (2 * s) h fs 1 0 1 (length ts) lx lo
-odds_reach n h s {fs} {lx} {lo} {ts} e a b t x o =
+odds_reach : (n h s : ℕ) {fs lo : ℕ} {ts : List ℤ} → n ≡ 2 * h * s → 0 < h → 0 < s → IsKernel n fs ts → n ≤ lo
+    → InReach h s (2 * s) h fs 1 (length ts) lo
+odds_reach n h s {fs} {lo} {ts} e a b t o =
     record {
       some = a;
       table = λ r k i j. let d = t.inside (place s (2 * s) r) k (below r i) (inner k j) in omega (arith, mul-one k);
-      line = λ k i. omega arith;
       stored = λ r i. let p = below r i in omega arith;
     }
   where
@@ -52,18 +59,14 @@ odds_reach n h s {fs} {lx} {lo} {ts} e a b t x o =
         omega (arith, mul-one k)
 
 -- a stage of a side of at most 32
-pub halving : (n h s : ℕ) {shift fs lx at stride ls lo : ℕ} {ts : List ℤ} → n ≡ 2 * h * s → n ≤ 32 → 0 < h → 0 < s → IsKernel n fs ts
-    → 1 ≤ shift → shift ≤ 15 → EndsIn (2 * h) stride at lx → h ≤ ls → n ≤ lo
-    → Halving fs h s shift (length ts) lx at stride ls lo
-halving n h s e small a b t low high inside sums room =
+pub halving : (n h s : ℕ) {fs count lo : ℕ} {ts : List ℤ} → n ≡ 2 * h * s → n ≤ 32 → 0 < h → 0 < s → IsKernel n fs ts
+    → count ≡ 2 * h → n ≤ lo → Halving fs h s (length ts) count lo
+halving n h s e small a b t twice room =
     let i : 2 * h * 1 ≤ 2 * h * s = mul-le-mul_left (2 * h) b in
     let j : 2 * 1 * s ≤ 2 * h * s = mul-le-mul_right s (omega arith) in
     record {
       few = omega (arith, mul-one (2 * h));
-      inside = inside;
-      sums = sums;
+      twice = twice;
       spaced = omega arith;
-      low = low;
-      high = high;
-      reach = odds_reach n h s e a b t (omega (arith, mul-one (2 * h))) room;
+      reach = odds_reach n h s e a b t room;
     }

@@ -21,26 +21,8 @@ use Rattle.fixed.proofs.Round.{round_shift_cong}
 use Rattle.kernels.specs.Dct.{dct}
 use Rattle.kernels.proofs.Dct.{dct_scale}
 use Rattle.kernels.proofs.Mirror.{Mirrors, turned_even, turned_odd}
-use Rattle.lines.specs.Line.{line_at, row_sum, place, rounded, Butterfly, Halved, Gathered}
-
--- frequency f of a line x of n numbers, exactly
-unfoldable pub dct_sum : ℕ → ℕ → (ℕ → ℤ) → ℤ
-dct_sum n f x = sum_to n (λ k. dct n f k *ℤ x k)
-
--- ts has the kernel of side n, frequency f from place f × fs on
-pub record IsKernel (n fs : ℕ) (ts : List ℤ) : Type 0 where
-  pub entry : (f k : ℕ) → f < n → k < n → get_or ts (f * fs + k) (pos 0) ≡ dct n f k
-  pub inside : (f k : ℕ) → f < n → k < n → f * fs + k < length ts
-
--- m numbers are left of a line x of n: modulo 2 ^ 32 they are y, whose frequencies at side m are every s-th of x at side n
-pub record Folded (n s m : ℕ) (x : ℕ → ℤ) (xs : List ℤ) (at stride : ℕ) : Type 0 where
-  pub y : ℕ → ℤ
-  pub held : (k : ℕ) → k < m → Cong (2 ^ 32) (line_at xs at stride k) (y k)
-  pub rows : (g : ℕ) → g < m → dct_sum n (g * s) x ≡ dct_sum m g y
-
--- every frequency that is no multiple of s stands in o
-pub record Settled (n s shift : ℕ) (x : ℕ → ℤ) (o : List ℤ) : Type 0 where
-  pub at : (q r : ℕ) → 0 < r → r < s → q * s + r < n → get_or o (q * s + r) (pos 0) ≡ round_shift shift (dct_sum n (q * s + r) x)
+use Rattle.lines.specs.Stage.{dct_sum, IsKernel, Folded, Settled, Partly, Finished}
+use Rattle.lines.specs.Line.{line_at, row_sum, place, rounded, Butterfly, Halved}
 
 -- ---- one fold
 
@@ -152,13 +134,6 @@ module _ (n h s shift : ℕ) (x : ℕ → ℤ) (e : n ≡ 2 * h * s) (some : 0 <
           (eq-or-lt_of_le m))
           (split r s)
 
--- ---- a line on its way: what is left of it, and what is settled
-
-pub record Partly (n s m shift : ℕ) (x : ℕ → ℤ) (xs : List ℤ) (at stride : ℕ) (o : List ℤ) : Type 0 where
-  pub left : Folded n s m x xs at stride
-  pub settled : Settled n s shift x o
-  pub long : n ≤ length o
-
 pub begin : (n shift : ℕ) (xs : List ℤ) (at stride : ℕ) (o : List ℤ) → n ≤ length o → Partly n 1 n shift (line_at xs at stride) xs at stride o
 begin n shift xs at stride o long =
     record {
@@ -166,20 +141,6 @@ begin n shift xs at stride o long =
         y = line_at xs at stride;
         held = λ k l. cong_refl (2 ^ 32) (line_at xs at stride k);
         rows = λ g l. ap (λ (i : ℕ). dct_sum n i (line_at xs at stride)) (mul-one g);
-      };
-      settled = record { at = λ q r b c d. absurd (omega arith) };
-      long = long;
-    }
-
--- the same from a line that was gathered
-pub begin_gathered : (n shift : ℕ) {src : List ℤ} {at stride : ℕ} {xs : List ℤ} (o : List ℤ) → Gathered n src at stride xs → n ≤ length o
-    → Partly n 1 n shift (line_at src at stride) xs 0 1 o
-begin_gathered n shift {src} {at} {stride} {xs} o g long =
-    record {
-      left = record {
-        y = line_at src at stride;
-        held = λ k l. cong_eq (ap (λ (i : ℕ). get_or xs i (pos 0)) (first k) ∙ g.numbers k l);
-        rows = λ g l. ap (λ (i : ℕ). dct_sum n i (line_at src at stride)) (mul-one g);
       };
       settled = record { at = λ q r b c d. absurd (omega arith) };
       long = long;
@@ -216,10 +177,6 @@ zeroth n shift fs {x} {xs} {at} {stride} {ts} some t f =
 
     whole : dct_sum n (0 * n) x ≡ dct_sum 1 0 f.y → dct_sum n 0 x ≡ sum_to 1 (λ k. dct 1 0 k *ℤ f.y k)
     whole e = ap (λ (i : ℕ). dct_sum n i x) (sym (zero-mul n)) ∙ e
-
--- every frequency stands in o
-pub record Finished (n shift : ℕ) (x : ℕ → ℤ) (o : List ℤ) : Type 0 where
-  pub at : (f : ℕ) → f < n → get_or o f (pos 0) ≡ round_shift shift (dct_sum n f x)
 
 -- the number that remains is frequency 0's
 pub finish : (n : ℕ) {shift fs : ℕ} {x : ℕ → ℤ} {xs : List ℤ} {at stride : ℕ} {o o' ts : List ℤ} → 0 < n → IsKernel n fs ts

@@ -1,3 +1,4 @@
 pub mod Line
 pub mod Pass
 pub mod Room
+pub mod Stage

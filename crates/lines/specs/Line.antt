@@ -44,10 +44,6 @@ pub record Halved (fs h step shift : ℕ) (ts xs : List ℤ) (at stride : ℕ) (
   pub butterfly : Butterfly h xs at stride ss ds
   pub odd : o' ≡ stores o h (place step (2 * step)) (rounded shift h ts step (2 * step) fs 1 ds 0 1)
 
--- what `gather` leaves: the line's n numbers in xs
-pub record Gathered (n : ℕ) (src : List ℤ) (at stride : ℕ) (xs : List ℤ) : Type 0 where
-  pub numbers : (k : ℕ) → k < n → get_or xs k (pos 0) ≡ line_at src at stride k
-
 -- the places from at on, and the numbers of a list
 abbrev pub from : ℕ → ℕ → ℕ
 from at f = at + f
@@ -55,19 +51,15 @@ from at f = at + f
 abbrev pub number : List ℤ → ℕ → ℤ
 number os f = get_or os f (pos 0)
 
--- what `frequencies` asks: there are taps, and each place lies within its buffer, of the lengths lt, lx and lo
-pub record InReach (count first apart taps fs ks at stride lt lx lo : ℕ) : Type 0 where
+-- what `frequencies` asks: there are taps, and each place lies within its buffer, of the lengths lt and lo
+pub record InReach (count first apart taps fs ks lt lo : ℕ) : Type 0 where
   pub some : 0 < taps
   pub table : (r k : ℕ) → r < count → k < taps → place first apart r * fs + k * ks < lt
-  pub line : (k : ℕ) → k < taps → k * stride + at < lx
   pub stored : (r : ℕ) → r < count → place first apart r < lo
 
--- what `halve` asks: its 2h numbers lie within the line, its h sums, and each place as above
-pub record Halving (fs h step shift lt lx at stride ls lo : ℕ) : Type 0 where
+-- what `halve` asks: a line of twice as many numbers as its h sums, and each place as above
+pub record Halving (fs h step lt count lo : ℕ) : Type 0 where
   pub few : h ≤ 16
-  pub inside : EndsIn (2 * h) stride at lx
-  pub sums : h ≤ ls
+  pub twice : count ≡ 2 * h
   pub spaced : step ≤ 16
-  pub low : 1 ≤ shift
-  pub high : shift ≤ 15
-  pub reach : InReach h step (2 * step) h fs 1 0 1 lt 16 lo
+  pub reach : InReach h step (2 * step) h fs 1 lt lo

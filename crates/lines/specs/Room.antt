@@ -5,23 +5,19 @@ use Rattle.lines.specs.Line.{EndsIn}
 
 -- count lines from start on, out of line lines of n numbers; ls and ld are the lengths of src and dst, of which just these lines are
 -- asked: the last of them ends within src, and all are stored within dst
-pub record Room (n line start count shift ls ld : ℕ) : Type 0 where
+pub record Room (n line start count ls ld : ℕ) : Type 0 where
   pub small : line ≤ 32
   pub ends : start + count ≤ line
   pub src : n * line + (start + count) ≤ line + ls
   pub dst : (start + count) * n ≤ ld
-  pub low : 1 ≤ shift
-  pub high : shift ≤ 15
 
 -- line j alone, of at most 32 numbers, stored as line to of dst
-pub record LineRoom (n line j shift ls to ld : ℕ) : Type 0 where
+pub record LineRoom (n line j ls to ld : ℕ) : Type 0 where
   pub some : 0 < n
   pub side : n ≤ 32
   pub src : EndsIn n line j ls
   pub few : to ≤ 32
   pub dst : to * n + n ≤ ld
-  pub low : 1 ≤ shift
-  pub high : shift ≤ 15
 
 -- "Output dst[j × n + f]"
 abbrev pub on_line : ℕ → ℕ → ℕ → ℕ

@@ -1,12 +1,14 @@
 -- What the tests of one record come to. Assumes nothing.
-use Rattle.std.proofs.Common.{◌≡◌, ℕ, ◌+◌, ◌*◌, ◌<◌, ◌≤◌, Bool, true, false, not, ◌&&◌, ◌||◌, ltb, List, [], ◌∷◌, length, get_or, refl, ap, ◌∙◌, ⊎_elim, arith, ltb-false, le-ltb, lt-ltb}
-use Rattle.laws.proofs.Bool.{decided}
-use Rattle.answer.proofs.Answer.{passed, the_answer, refused_alike}
-use Rattle.answer.proofs.More.{refused_more}
+use Rattle.std.proofs.Common.{◌≡◌, ℕ, ◌+◌, ◌*◌, ◌/◌, ◌<◌, ◌≤◌, Bool, true, false, not, ◌||◌, ltb, List, length, nat_abs, get_or, sym, refl, ap, ◌∙◌, arith, le-ltb, lt-ltb}
 use Rattle.answer.specs.Answer.{answers, refuses, lowest}
-use Rattle.format.specs.Pieces.{number_at}
-use Rattle.format.specs.Format.{bit_in, places_in, count_in, list_in, length_in, is_cut, is_bad, record_answer}
-use Rattle.look.specs.Look.{listed_count, are_right, unless_cut}
+use Rattle.answer.specs.Answer.{number_of}
+use Rattle.answer.specs.declared.Refusal.{Refusal}
+use Rattle.answer.specs.declared.Refusal.TheVariants.{CutRecord}
+use Rattle.laws.specs.Sum.{sum_ℕ}
+use Rattle.format.specs.Pieces.{number_at, width_of, height_of}
+use Rattle.format.proofs.Parse.{length_some}
+use Rattle.format.specs.Format.{width_in, height_in, bit_in, places_in, count_in, list_in, listed_in, length_in, is_bad, record_answer}
+use Rattle.look.specs.Look.{listed_count, listed_sum, are_right}
 use Rattle.format.proofs.Listed.{standing_le}
 use Rattle.format.proofs.Sides.{sized_in}
 
@@ -22,65 +24,70 @@ count_most s = omega (arith, standing_le (bit_in s) (places_in s), (sized_in s).
 pub length_most : (s : List ℕ) → length_in s ≤ 4229
 length_most s = omega (arith, length_is s, count_most s, (sized_in s).most)
 
--- ---- how many levels a record lists, by the tests that led there
+pub whole_some : (s : List ℕ) → length_in s ≤ length s → 5 ≤ length s
+whole_some s h = omega (arith, length_some s, h)
 
-module _ (s : List ℕ) where
-  pub says_cut : length s < length_in s → refuses 10 ≡ lowest ((is_cut s, 10) ∷ []) (listed_count s)
-  unfolding lowest
-  says_cut h = rw (lt-ltb (length s) (length_in s) h)
+-- its places, by its side byte, and where it ends
+module _ (s : List ℕ) {n : ℕ} where
+  pub places_are : {w h : ℕ} → n ≡ w * h → w ≡ width_of (get_or s 4 0) → h ≡ height_of (get_or s 4 0) → n ≡ places_in s
+  unfolding width_in height_in
+  places_are e a b = rw (e, a, b)
 
-  pub says_whole : length_in s ≤ length s → answers (listed_count s) ≡ lowest ((is_cut s, 10) ∷ []) (listed_count s)
-  unfolding lowest
-  says_whole h = rw (le-ltb (length s) (length_in s) h)
+  module _ (e : n ≡ places_in s) where
+    pub list_is : 5 + n / 8 ≡ list_in s
+    list_is = ap (λ (n : ℕ). 5 + n / 8) e
 
--- where that is refused, the record is, and nothing is counted in it
-module _ (low : ℕ) (s : List ℕ) {k : ℕ} (e : refuses k ≡ lowest ((is_cut s, 10) ∷ []) (listed_count s)) where
-  pub cut_answer : refuses k ≡ record_answer low s
-  unfolding record_answer
-  cut_answer =
-      refused_more ((is_cut s, 10) ∷ []) ((is_bad s, 11) ∷ (ltb (number_at s 0) low, 12) ∷ []) (length_in s) k
-      (refused_alike ((is_cut s, 10) ∷ []) (listed_count s) (length_in s) k e)
+    pub count_is : {count : ℕ} → count ≡ count_in s n → count ≡ listed_count s
+    count_is f = f ∙ ap (count_in s) e
 
-  pub cut_count : (n : ℕ) → 0 ≡ unless_cut s n
-  unfolding lowest
-  cut_count n = ⊎_elim (λ c. rw c) (λ c. absurd (not_cut c)) (decided (is_cut s))
-    where
-      not_cut : is_cut s ≡ false → ⊥
-      not_cut c = let f : refuses k ≡ answers (listed_count s) = rw c at e in let z : ◌≡◌ {A = ℕ} 0 1 = cc in omega arith
+    pub listed_room : {count : ℕ} → count ≡ listed_count s → length_in s ≤ length s
+        → (5 + n / 8 ≡ list_in s) × (5 + n / 8 + 4 * count ≤ length s) × (count ≤ 1024)
+    listed_room f whole = (list_is, omega (arith, list_is, f, length_is s), omega (arith, f, count_most s))
 
--- where it is answered, the record is whole
-module _ (s : List ℕ) {m : ℕ} (e : answers m ≡ lowest ((is_cut s, 10) ∷ []) (listed_count s)) where
-  pub whole_count : m ≡ listed_count s
-  whole_count = the_answer (listed_count s) m (passed (is_cut s) 10 [] (listed_count s) m e).1
-
-  pub whole_room : length_in s ≤ length s
-  whole_room = ltb-false (length s) (length_in s) (passed (is_cut s) 10 [] (listed_count s) m e).0
-
--- what is counted in a whole record
-pub whole_is : (s : List ℕ) → length_in s ≤ length s → (n : ℕ) → unless_cut s n ≡ n
-whole_is s h n = rw (le-ltb (length s) (length_in s) h)
+    pub end_is : {count : ℕ} → count ≡ listed_count s → 5 + n / 8 + 4 * count ≡ length_in s
+    end_is f = omega (arith, list_is, f, length_is s)
 
 -- ---- what a whole record answers
 
+module _ (low : ℕ) (s : List ℕ) where
+  pub says_cut : {why : Refusal} → why ≡ CutRecord → length s + 1 ≤ length_in s → refuses (number_of why) ≡ record_answer low s
+  unfolding record_answer lowest
+  says_cut e h = rw (e, lt-ltb (length s) (length_in s) (omega arith))
+
+-- the tests of its side byte and its levels
+module _ (s : List ℕ) {count : ℕ} (e : count ≡ listed_count s) where
+  bad_levels : are_right s count ≡ false → is_bad s ≡ true
+  unfolding is_bad
+  bad_levels f = rw (sym e, f) (turned (ltb (get_or s 4 0) 16))
+    where
+      turned : (a : Bool) → (not a || true) ≡ true
+      turned true = refl
+      turned false = refl
+
+  not_bad : get_or s 4 0 < 16 → are_right s count ≡ true → is_bad s ≡ false
+  unfolding is_bad
+  not_bad h f = rw (sym e, f, lt-ltb (get_or s 4 0) 16 h)
+
 module _ (low : ℕ) (s : List ℕ) (whole : length_in s ≤ length s) where
-  pub says_bad : is_bad s ≡ true → refuses 11 ≡ record_answer low s
-  unfolding record_answer lowest
-  says_bad b = rw (le-ltb (length s) (length_in s) whole, b)
+  pub says_side : 16 ≤ get_or s 4 0 → refuses 11 ≡ record_answer low s
+  unfolding record_answer lowest is_bad
+  says_side h = rw (le-ltb (length s) (length_in s) whole, le-ltb (get_or s 4 0) 16 h)
 
-  pub says_order : is_bad s ≡ false → number_at s 0 < low → refuses 12 ≡ record_answer low s
-  unfolding record_answer lowest
-  says_order b h = rw (le-ltb (length s) (length_in s) whole, b, lt-ltb (number_at s 0) low h)
+  module _ (count : ℕ) (e : count ≡ listed_count s) where
+    pub says_levels : are_right s count ≡ false → refuses 11 ≡ record_answer low s
+    unfolding record_answer lowest
+    says_levels f = rw (le-ltb (length s) (length_in s) whole, bad_levels s e f)
 
-  pub says_right : is_bad s ≡ false → low ≤ number_at s 0 → answers (length_in s) ≡ record_answer low s
-  unfolding record_answer lowest
-  says_right b h = rw (le-ltb (length s) (length_in s) whole, b, le-ltb (number_at s 0) low h)
+    module _ (h : get_or s 4 0 < 16) (f : are_right s count ≡ true) where
+      pub says_order : number_at s 0 < low → refuses 12 ≡ record_answer low s
+      unfolding record_answer lowest
+      says_order l = rw (le-ltb (length s) (length_in s) whole, not_bad s e h f, lt-ltb (number_at s 0) low l)
 
--- the test of its side byte and its levels, as the code has it
-pub bad_is : (s : List ℕ) {right : Bool} → right ≡ are_right s (listed_count s) → not (ltb (get_or s 4 0) 16 && right) ≡ is_bad s
-unfolding is_bad
-bad_is s e =
-    ap (λ (b : Bool). not (ltb (get_or s 4 0) 16 && b)) e ∙ not_both (ltb (get_or s 4 0) 16) (are_right s (listed_count s))
-  where
-    not_both : (a b : Bool) → not (a && b) ≡ (not a || not b)
-    not_both true b = refl
-    not_both false b = refl
+      pub says_right : (n : ℕ) → n ≡ places_in s → low ≤ number_at s 0 → answers (5 + n / 8 + 4 * count) ≡ record_answer low s
+      unfolding record_answer lowest
+      says_right n p l = rw (end_is s p e, le-ltb (length s) (length_in s) whole, not_bad s e h f, le-ltb (number_at s 0) low l)
+
+-- the sum of its levels
+pub sum_is : (s : List ℕ) {count m : ℕ} → count ≡ listed_count s → m ≡ sum_ℕ count (λ i. nat_abs (listed_in s i)) → m ≡ listed_sum s
+unfolding listed_sum
+sum_is s e f = f ∙ ap (λ (n : ℕ). sum_ℕ n (λ i. nat_abs (listed_in s i))) e

@@ -1,7 +1,7 @@
 -- What the loop over the levels of a record knows. Assumes nothing.
-use Rattle.std.proofs.Common.{◌≡◌, ℕ, ◌+◌, ◌-◌, ◌/◌, ◌%◌, ◌^◌, ◌<◌, not, ◌&&◌, eqb, ltb, leb, List, nat_abs, refl, ap, ◌∙◌, ⊎_elim, arith, le-ltb, lt-ltb, eq-eqb, ne_eqb, le-leb}
+use Rattle.std.proofs.Common.{◌≡◌, ℕ, ◌+◌, ◌-◌, ◌/◌, ◌%◌, ◌^◌, ◌<◌, ◌≤◌, true, false, not, ◌&&◌, eqb, ltb, leb, List, nat_abs, sym, refl, ap, ◌∙◌, ⊎_elim, arith, le-ltb, lt-ltb, eq-eqb, ne_eqb, le-leb}
 use borrow.Author.Tests.{lt-leb}
-use lib.Bits.{bit_or}
+use lib.Bits.{bit_or, or_comm}
 use Rattle.laws.proofs.Bits.{or_ltb}
 use Rattle.laws.proofs.Every.{every_turn}
 use Rattle.laws.proofs.Halves.{Halves, halves_none, halves_more}
@@ -32,12 +32,21 @@ pub summed_none : (s : List ℕ) → Summed s 0 0 0 0
 summed_none s = record { sum = halves_none (λ i. nat_abs (listed_in s i)); right = refl }
 
 -- and one more
-pub summed_more : {s : List ℕ} {lower upper reach i : ℕ} → Summed s lower upper reach i → {m x : ℕ} → m ≡ nat_abs (listed_in s i) → m < 2 ^ 32 → x < 2 ^ 32
-    → (x + 1) % 2 ^ 32 ≡ m → Summed s (lower + m % 65536) (upper + m / 65536) (bit_or x reach) (i + 1)
-summed_more {s} {lower} {upper} {reach} {i} h {m} {x} level small below e =
+pub summed_more : {s : List ℕ} {lower upper reach i : ℕ} → Summed s lower upper reach i → {m : ℕ} → m ≡ nat_abs (listed_in s i) → m < 2 ^ 32
+    → Summed s (lower + m % 65536) (upper + m / 65536) (bit_or reach ((m + 4294967295) % 4294967296)) (i + 1)
+summed_more {s} {lower} {upper} {reach} {i} h {m} level small =
+    let x = (m + 4294967295) % 4294967296 in
     record {
       sum = halves_more h.sum level small;
-      right = or_ltb 30 x reach
+      right = ap (λ (n : ℕ). ltb n (2 ^ 30)) (or_comm reach x)
+          ∙ or_ltb 30 x reach
           ∙ every_turn (λ i. stands (listed_in s i) && is_near (listed_in s i)) i
-          (right_before m x below e ∙ ap (λ (n : ℕ). not (eqb n 0) && leb n (2 ^ 30)) level) h.right;
+          (right_before m x (omega arith) (omega arith) ∙ ap (λ (n : ℕ). not (eqb n 0) && leb n (2 ^ 30)) level) h.right;
     }
+
+-- the test at the end
+pub summed_right : {s : List ℕ} {lower upper reach i : ℕ} → Summed s lower upper reach i → reach < 2 ^ 30 → are_right s i ≡ true
+summed_right {reach = reach} h l = sym h.right ∙ lt-ltb reach (2 ^ 30) l
+
+pub summed_wrong : {s : List ℕ} {lower upper reach i : ℕ} → Summed s lower upper reach i → 2 ^ 30 ≤ reach → are_right s i ≡ false
+summed_wrong {reach = reach} h l = sym h.right ∙ le-ltb reach (2 ^ 30) l

@@ -9,4 +9,4 @@ mod record;
 
 pub use bytes::{number_at, of_word};
 pub use file::{Checked, check_records};
-pub use record::{Record, check_record, height_in, places_in, width_in};
+pub use record::{Record, Whole, check_record, size_of};

@@ -1,39 +1,52 @@
 // One record, looked through without unpacking it. s is the bytes from its first on.
-ghost use Rattle.std.specs.Prelude.{◌≡◌, ◌+◌, ◌*◌, ◌/◌, ◌%◌, ◌^◌, ◌<◌, ◌≤◌, [], ◌∷◌, length};
-ghost use Rattle.answer.specs.Answer.{told, lowest};
-ghost use Rattle.format.specs.Format.{width_in, height_in, places_in, count_in, length_in, is_cut, record_answer};
-ghost use Rattle.look.specs.Look.{listed_count, listed_sum, are_right, unless_cut};
+ghost use Rattle.std.specs.Prelude.{◌≡◌, ◌+◌, ◌/◌, ◌%◌, ◌≤◌, length, MatchResult};
+ghost use Rattle.answer.specs.Answer.{answers, refuses, number_of};
+ghost use Rattle.answer.specs.declared.Refusal.TheVariants.{CutRecord};
+ghost use Rattle.format.specs.Pieces.{number_at, width_of, height_of};
+ghost use Rattle.format.specs.Format.{width_in, height_in, places_in, count_in, length_in, record_answer};
+ghost use Rattle.look.specs.Look.{listed_count, listed_sum};
 
 use super::{bytes, levels};
-use answer::{Outcome, Refusal};
+use answer::Refusal;
+use sizes::Size;
 
-// A side by the two bits that tell it.
-fn side_of(bits: u8) -> usize
-    requires { bits < 4 }
-    ensures { result ≡ 4 * 2 ^ bits }
+// The sides that the lower four bits of a side byte tell.
+pub fn size_of(side: u8) -> Size
+    ensures { (result.w ≡ width_of side) × (result.h ≡ height_of side) }
 {
-    4usize << bits
+    Size {
+        w: 4 << (side % 4),
+        h: 4 << (side / 4 % 4),
+    }
 }
 
-pub fn width_in(s: &[u8]) -> usize
-    requires { 5 ≤ length s.now }
-    ensures { result ≡ width_in s.now }
-{
-    side_of(s[4] % 4)
+// The bytes from the first of a record on, of which it lacks none.
+#[derive(Clone, Copy)]
+pub struct Whole<'a> {
+    pub bytes: &'a [u8],
+    ghost whole: { length_in bytes.now ≤ length bytes.now },
 }
 
-pub fn height_in(s: &[u8]) -> usize
-    requires { 5 ≤ length s.now }
-    ensures { result ≡ height_in s.now }
-{
-    side_of(s[4] / 4 % 4)
-}
+impl<'a> Whole<'a> {
+    #[tactic(auto, using(crate::proofs::Looked::whole_some))]
+    pub fn number(&self) -> u32
+        ensures { result ≡ number_at self.now.bytes.now 0 }
+    {
+        bytes::number_at(self.bytes, 0)
+    }
 
-pub fn places_in(s: &[u8]) -> usize
-    requires { 5 ≤ length s.now }
-    ensures { result ≡ places_in s.now }
-{
-    width_in(s) * height_in(s)
+    #[tactic(auto, using(crate::proofs::Looked::whole_some), unfolding(format::specs::Format::width_in, format::specs::Format::height_in))]
+    pub fn size(&self) -> Size
+        ensures { (result.w ≡ width_in self.now.bytes.now) × (result.h ≡ height_in self.now.bytes.now) }
+    {
+        size_of(self.bytes[4])
+    }
+
+    pub fn places(&self) -> usize
+        ensures { result ≡ places_in self.now.bytes.now }
+    {
+        self.size().places()
+    }
 }
 
 // How many levels are listed for n places, by the bytes of the map.
@@ -42,76 +55,63 @@ fn count_in(s: &[u8], n: usize) -> usize
     ensures { result ≡ count_in s.now n }
 {
     let mut count: u32 = 0;
-    let mut j = 0;
-    while j < n / 8 {
-        count += u8::count_ones(s[5 + j]);
-        j += 1;
+    for j in 0..n / 8 {
+        count += s[5 + j].count_ones();
     }
     count as usize
 }
 
 // How many levels a record lists, unless the bytes end inside it.
-fn count_listed(s: &[u8]) -> Outcome
-    ensures { told result ≡ lowest ((is_cut s.now, 10) ∷ []) (listed_count s.now) }
+fn count_listed(s: &[u8]) -> Result<usize, Refusal>
+    ensures { MatchResult result (λ count. (length_in s.now ≤ length s.now) × (count ≡ listed_count s.now)) (λ why. (why ≡ CutRecord) × (length s.now + 1 ≤ length_in s.now)) }
 {
     if s.len() < 5 {
-        return Outcome::Refused(Refusal::CutRecord);
+        return Err(Refusal::CutRecord);
     }
-    let n = places_in(s);
+    let n = size_of(s[4]).places();
     let list = 5 + n / 8;
     if s.len() < list {
-        return Outcome::Refused(Refusal::CutRecord);
+        return Err(Refusal::CutRecord);
     }
     let count = count_in(s, n);
     if s.len() < list + 4 * count {
-        return Outcome::Refused(Refusal::CutRecord);
+        return Err(Refusal::CutRecord);
     }
-    Outcome::Done(count)
+    Ok(count)
 }
 
-// What a record answers that has all its bytes and ends at end; right says whether its levels are.
-fn judge(low: u64, s: &[u8], end: usize, right: bool) -> Outcome
-    requires { (end ≡ length_in s.now) × (end ≤ length s.now) × (right ≡ are_right s.now (listed_count s.now)) }
-    ensures { told result ≡ record_answer low s.now }
-{
-    if !((s[4] < 16) & right) {
-        return Outcome::Refused(Refusal::BadRecord);
-    }
-    if (bytes::number_at(s, 0) as u64) < low {
-        return Outcome::Refused(Refusal::RecordOrder);
-    }
-    Outcome::Done(end)
-}
-
-// What a look at a record finds: its length, or why it is refused; how many levels it lists, and the sum of their magnitudes. Where the bytes
-// end inside it, it counts as one without levels.
-#[derive(Drop)]
+// A right record: its block's number and places, its length, how many levels it lists, and the sum of their magnitudes.
+#[derive(Clone, Copy)]
 pub struct Record {
-    pub answer: Outcome,
+    pub number: u32,
+    pub places: usize,
+    pub length: usize,
     pub levels: usize,
     pub magnitude: u64,
 }
 
-// Whether a record is whole and right, and its number low or more.
-pub fn check_record(low: u64, s: &[u8]) -> Record
-    ensures answer_value { told result.answer ≡ record_answer low s.now }
-    ensures levels_value { result.levels ≡ unless_cut s.now (listed_count s.now) }
-    ensures magnitude_value { result.magnitude ≡ unless_cut s.now (listed_sum s.now) }
+// A record, if it is whole and right, and its number low or more.
+#[tactic(auto, using(crate::proofs::Looked::says_cut, crate::proofs::Looked::whole_some, crate::proofs::Looked::says_side, crate::proofs::Looked::says_levels, crate::proofs::Looked::says_order, crate::proofs::Looked::says_right, crate::proofs::Looked::sum_is))]
+pub fn check_record(low: u64, s: &[u8]) -> Result<Record, Refusal>
+    ensures { MatchResult result (λ r. (answers r.length ≡ record_answer low s.now) × (r.number ≡ number_at s.now 0) × (r.places ≡ places_in s.now) × (r.levels ≡ listed_count s.now) × (r.magnitude ≡ listed_sum s.now)) (λ why. refuses (number_of why) ≡ record_answer low s.now) }
 {
-    let listed = count_listed(s);
-    let Outcome::Done(count) = listed else {
-        return Record {
-            answer: listed,
-            levels: 0,
-            magnitude: 0,
-        };
-    };
-    let n = places_in(s);
-    let list = 5 + n / 8;
-    let sum = levels::sum_levels(s, list, count);
-    Record {
-        answer: judge(low, s, list + 4 * count, sum.right),
-        levels: count,
-        magnitude: sum.magnitude,
+    let count = count_listed(s)?;
+    let record = Whole { bytes: s };
+    let places = record.places();
+    let list = 5 + places / 8;
+    if s[4] >= 16 {
+        return Err(Refusal::BadRecord);
     }
+    let magnitude = levels::sum_levels(s, list, count).ok_or(Refusal::BadRecord)?;
+    let number = record.number();
+    if u64::from(number) < low {
+        return Err(Refusal::RecordOrder);
+    }
+    Ok(Record {
+        number,
+        places,
+        length: list + 4 * count,
+        levels: count,
+        magnitude,
+    })
 }

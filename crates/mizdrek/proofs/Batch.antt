@@ -6,9 +6,10 @@ use lib.Dec.{T}
 use lib.IntN.{ℤ}
 use lib.ListN.{length}
 use Rattle.answer.specs.Answer.{told, is_small}
-use Rattle.answer.specs.declared.Outcome.{Outcome}
+use Rattle.answer.specs.Answer.{Outcome}
 use Rattle.answer.proofs.Answer.{signed_asked}
-use Rattle.tickets.specs.Batch.{Batch, Given, batch}
+use Rattle.tickets.specs.Batch.{Given, batch}
+use Rattle.tickets.specs.declared.Batch.{Batch}
 use Rattle.tickets.specs.declared.Ticket.{Ticket}
 use Rattle.tickets.proofs.Played.{answer_small}
 use Rattle.dispatch.specs.Lent.{lent}

@@ -1,3 +1,4 @@
 pub mod Batch
 pub mod Finite
 pub mod Opening
+pub mod Signed

@@ -7,9 +7,6 @@ ghost use Rattle.totals.specs.Totals.{report_of};
 ghost use Rattle.writer.specs.Writing.{write_answer, bytes_after};
 ghost use Rattle.mizdrek.specs.Reported.{signed_report, levels_given, magnitude_given};
 
-use answer::Outcome;
-use totals::Report;
-
 #[unsafe(no_mangle)]
 pub extern "C" fn mizdrek_read_records(
     bytes: &[u8],
@@ -49,13 +46,12 @@ pub extern "C" fn mizdrek_report(bytes: &[u8], levels: &mut u64, magnitude: &mut
     ensures levels_after { levels.new ≡ levels_given (report_of bytes.now) levels.old }
     ensures magnitude_after { magnitude.new ≡ magnitude_given (report_of bytes.now) magnitude.old }
 {
-    let report = totals::add_up(bytes);
-    match report {
-        Report::Refused(why) => answer::signed(Outcome::Refused(why)),
-        Report::Of(t) => {
+    match totals::add_up(bytes) {
+        Err(why) => answer::signed(Err(why)),
+        Ok(t) => {
             *levels = t.levels;
             *magnitude = t.magnitude;
-            answer::signed(Outcome::Done(t.blocks))
+            answer::signed(Ok(t.blocks))
         }
     }
 }

@@ -1,4 +1,4 @@
-// The functions of the C interface that take a plane record: one that the caller keeps and lends. Each copies it, runs the call by value, and
+// The functions of the C interface that take a plane record: one that the caller keeps and lends. Each runs the call on a copy of it, and
 // stores the record that comes back.
 ghost use Rattle.std.specs.Prelude.{true, false, length};
 ghost use Rattle.tickets.specs.Batch.{batch_of};
@@ -13,10 +13,7 @@ use plane::Plane;
 pub extern "C" fn mizdrek_make_plane(w: usize, h: usize, plane: &mut Plane) -> i64
     ensures { SignedMaking w h plane.old result plane.new }
 {
-    let given = *plane;
-    let made = tiles::make(given, w, h);
-    *plane = made.plane;
-    made.number
+    tiles::make(*plane, w, h).store(plane)
 }
 
 #[unsafe(no_mangle)]
@@ -36,9 +33,8 @@ pub extern "C" fn mizdrek_open_tile(
     ensures { SignedPlanned (opening plane.old (new_tile (site_of room x y w h column_kind row_kind)) residuals.now
         (length scratch.now) (length output.now)) result plane.new }
 {
-    let given = *plane;
-    let opened = tiles::open_tile(
-        given,
+    tiles::open_tile(
+        *plane,
         room,
         x,
         y,
@@ -49,19 +45,15 @@ pub extern "C" fn mizdrek_open_tile(
         residuals,
         scratch,
         output,
-    );
-    *plane = opened.plane;
-    opened.number
+    )
+    .store(plane)
 }
 
 #[unsafe(no_mangle)]
 pub extern "C" fn mizdrek_close_tile(plane: &mut Plane, room: u32, tile: usize) -> i64
     ensures { SignedPlanned (closing plane.old room tile) result plane.new }
 {
-    let given = *plane;
-    let closed = tiles::close_tile(given, room, tile);
-    *plane = closed.plane;
-    closed.number
+    tiles::close_tile(*plane, room, tile).store(plane)
 }
 
 #[unsafe(no_mangle)]
@@ -77,10 +69,7 @@ pub extern "C" fn mizdrek_tile_columns(
     ensures { SignedKept (columns_in plane.old room tile (batch_of false start lines) residuals.now scratch.old)
         result plane.new scratch.new }
 {
-    let given = *plane;
-    let done = tiles::columns(given, room, tile, residuals, scratch, start, lines);
-    *plane = done.plane;
-    done.number
+    tiles::columns(*plane, room, tile, residuals, scratch, start, lines).store(plane)
 }
 
 #[unsafe(no_mangle)]
@@ -96,8 +85,5 @@ pub extern "C" fn mizdrek_tile_rows(
     ensures { SignedKept (rows_in plane.old room tile (batch_of true start lines) scratch.now output.old)
         result plane.new output.new }
 {
-    let given = *plane;
-    let done = tiles::rows(given, room, tile, scratch, output, start, lines);
-    *plane = done.plane;
-    done.number
+    tiles::rows(*plane, room, tile, scratch, output, start, lines).store(plane)
 }

@@ -8,7 +8,7 @@ ghost use Rattle.quant.specs.Step.{step_of};
 ghost use Rattle.mizdrek.specs.Levels.{card, signed_one, level_given, magnitude_given};
 
 use answer::Outcome;
-use quant::{Place, Quantized, Settings};
+use quant::{Place, Settings};
 
 #[unsafe(no_mangle)]
 pub extern "C" fn mizdrek_qstep(index: u32) -> u32
@@ -39,19 +39,17 @@ pub extern "C" fn mizdrek_quantize_one(
     };
     let quantized = quant::quantize_one(settings, step, coefficient);
     match quantized {
-        Quantized::Refused(r) => answer::signed(Outcome::Refused(r)),
-        Quantized::At(place) => match place {
-            Place::Dropped(m) => {
-                *level = 0.0;
-                *magnitude = m;
-                0
-            }
-            Place::Kept(l, m) => {
-                *level = l;
-                *magnitude = m;
-                1
-            }
-        },
+        Err(why) => answer::signed(Err(why)),
+        Ok(Place::Dropped(m)) => {
+            *level = 0.0;
+            *magnitude = m;
+            0
+        }
+        Ok(Place::Kept(l, m)) => {
+            *level = l;
+            *magnitude = m;
+            1
+        }
     }
 }
 

@@ -4,35 +4,13 @@ ghost use Rattle.tickets.specs.Batch.{batch_of};
 ghost use Rattle.previews.specs.Preview.{preview_of};
 ghost use Rattle.mizdrek.specs.Preview.{SignedPreview};
 
-use tickets::Ticket;
+use tickets::{Batch, Ticket};
 
 // The preview's answer as one signed number.
-fn columns(
-    ticket: Ticket,
-    residuals: &[i32],
-    scratch: &[i32],
-    preview: &mut [i32],
-    start: usize,
-    lines: usize,
-) -> i64
-    ensures { SignedPreview (preview_of ticket (batch_of false start lines) residuals.now scratch.now preview.old) result preview.new }
+fn shown(ticket: Ticket, b: Batch, source: &[i32], target: &[i32], preview: &mut [i32]) -> i64
+    ensures { SignedPreview (preview_of ticket b source.now target.now preview.old) result preview.new }
 {
-    let outcome = previews::preview_columns(ticket, residuals, scratch, preview, start, lines);
-    answer::signed(outcome)
-}
-
-fn rows(
-    ticket: Ticket,
-    scratch: &[i32],
-    output: &[i32],
-    preview: &mut [i32],
-    start: usize,
-    lines: usize,
-) -> i64
-    ensures { SignedPreview (preview_of ticket (batch_of true start lines) scratch.now output.now preview.old) result preview.new }
-{
-    let outcome = previews::preview_rows(ticket, scratch, output, preview, start, lines);
-    answer::signed(outcome)
+    answer::signed(previews::preview(ticket, b, source, target, preview))
 }
 
 #[unsafe(no_mangle)]
@@ -46,8 +24,8 @@ pub extern "C" fn mizdrek_preview_columns(
 ) -> i64
     ensures { SignedPreview (preview_of ticket.now (batch_of false start lines) residuals.now scratch.now preview.old) result preview.new }
 {
-    let given = *ticket;
-    columns(given, residuals, scratch, preview, start, lines)
+    let b = Batch::columns(start, lines);
+    shown(*ticket, b, residuals, scratch, preview)
 }
 
 #[unsafe(no_mangle)]
@@ -61,6 +39,6 @@ pub extern "C" fn mizdrek_preview_rows(
 ) -> i64
     ensures { SignedPreview (preview_of ticket.now (batch_of true start lines) scratch.now output.now preview.old) result preview.new }
 {
-    let given = *ticket;
-    rows(given, scratch, output, preview, start, lines)
+    let b = Batch::rows(start, lines);
+    shown(*ticket, b, scratch, output, preview)
 }

@@ -1,19 +1,23 @@
--- The loop over the stages of a DCT line: m numbers are left, at every step-th frequency. Assumes nothing.
-use mathlib.Core.Path.{◌≡◌, sym, ap, ◌∙◌, subst}
+-- The table of side 32 at every side, and half of a line. Assumes nothing.
+use mathlib.Core.Path.{◌≡◌, refl, sym, ap, subst}
 use mathlib.Core.Bool.{true}
 use mathlib.Core.List.{List}
 use Prim.Native.Nat.{ℕ, zero, suc, ◌+◌, ◌*◌, ◌/◌, ◌^◌, ◌≤◌, ◌<◌}
-use native.Mathlib.Nat.{pow-suc, mul_comm, mul_assoc, mul-one, one-mul, mul-le-mul_right}
+use native.Mathlib.Nat.{pow-suc, mul-le-mul}
 use native.Mathlib.Omega.{arith}
 use lib.IntN.{ℤ, pos}
-use lib.ListN.{length, get_or}
+use lib.ListN.{length, get_or, take, replicate}
+use Rattle.std.proofs.lemmas.List.{length-take-le}
 use lib.Pow.{pow_pos, pow_mono}
-use Rattle.sizes.specs.Size.{is_side, log_of}
-use Rattle.sizes.proofs.Side.{side_bounds, log_bounds, each_side}
+use Rattle.sizes.specs.Size.{is_side}
+use Rattle.sizes.proofs.Side.{each_side}
 use Rattle.kernels.specs.Dct.{dct, dct32}
 use Rattle.kernels.proofs.Mirror.{Mirrors, mirror}
-use Rattle.lines.specs.Line.{line_at, Halved, Gathered}
-use Rattle.lines.proofs.Stage.{IsKernel, Partly, begin_gathered, stage}
+use Rattle.laws.specs.Store.{stores}
+use Rattle.lines.specs.Line.{place, rounded, Halving, Halved}
+use Rattle.lines.specs.Stage.{IsKernel, Staging, Completes}
+use Rattle.lines.proofs.Chain.{halving_asked, rest_asked, completed, last_completed}
+use Rattle.passes.specs.Power.{Power}
 
 -- the 1,024 numbers serve every side: row 32f/n begins at place f × (1024 / n)
 table_at : (n fs : ℕ) → ((f : ℕ) → f * fs ≡ 32 * f / n * 32) → ((f k : ℕ) → f < n → k < n → f * fs + k < 1024) → IsKernel n fs dct32
@@ -28,94 +32,78 @@ whole_table =
     (table_at 16 64 (λ f. omega arith) (λ f k a b. omega arith))
     (table_at 32 32 (λ f. omega arith) (λ f k a b. omega arith))
 
--- m is 2 to a power of at most 5
-pub record Power (m : ℕ) : Type 0 where
-  pub e : ℕ
-  pub is : m ≡ 2 ^ e
-  pub small : e ≤ 5
-
-pub record Going (n m step shift : ℕ) (src : List ℤ) (j line : ℕ) (x o : List ℤ) : Type 0 where
-  pub partly : Partly n step m shift (line_at src j line) x 0 1 o
-  pub product : m * step ≡ n
-  pub power : Power m
-
-pub going_start : {n shift : ℕ} {src : List ℤ} {j line : ℕ} {x : List ℤ} (o : List ℤ) → is_side n ≡ true → Gathered n src j line x → n ≤ length o
-    → Going n n 1 shift src j line x o
-going_start {n} {shift} o s g long =
-    record {
-      partly = begin_gathered n shift o g long;
-      product = mul-one n;
-      power = record { e = log_of n; is = (side_bounds n s).power; small = (log_bounds n).high };
-    }
-
 -- half of what is left
-record Half (m : ℕ) : Type 0 where
-  pub twice : 2 * (m / 2) ≡ m
-  pub half : Power (m / 2)
+pub record Half (m : ℕ) : Type 0 where
+  pub twice : m ≡ 2 * (m / 2)
+  pub some : 0 < m / 2
+  pub few : m / 2 ≤ 16
   pub mirrors : Mirrors (2 * (m / 2))
+  pub rest : (m / 2 ≡ 1 → ⊥) → Power (m / 2)
 
-halved : (m : ℕ) → Power m → 1 < m → Half m
-halved m p b = go p.e p.is p.small
+pub halved : (m : ℕ) → Power m → Half m
+halved m p = go p.e p.is p.small
   where
-    go : (e : ℕ) → m ≡ 2 ^ e → e ≤ 5 → Half m
-    go zero i s = absurd (omega arith)
-    go (suc e) i s =
+    power : (e : ℕ) → m / 2 ≡ 2 ^ e → e ≤ 4 → (m / 2 ≡ 1 → ⊥) → Power (m / 2)
+    power zero q s other = absurd (other q)
+    power (suc e) q s other = record { e = e; is = q; small = omega arith }
+
+    go : (e : ℕ) → m ≡ 2 ^ suc e → e ≤ 4 → Half m
+    go e i s =
         let d : 2 * 2 ^ e ≡ m = omega (arith, pow-suc 2 e) in
         let q : m / 2 ≡ 2 ^ e = omega arith in
+        let b : 2 ^ e ≤ 2 ^ 4 = pow_mono s in
         record {
           twice = omega arith;
-          half = record { e = e; is = q; small = omega arith };
-          mirrors = subst Mirrors (i' e q i) (mirror e (omega arith));
+          some = omega (arith, pow_pos e);
+          few = omega arith;
+          mirrors = subst Mirrors (let t : 2 ^ suc e ≡ 2 * (m / 2) = omega arith in t) (mirror e (omega arith));
+          rest = power e q s;
         }
-      where
-        i' : (e : ℕ) → m / 2 ≡ 2 ^ e → m ≡ 2 ^ suc e → 2 ^ suc e ≡ 2 * (m / 2)
-        i' e q i = omega (arith, pow-suc 2 e)
 
--- what a turn knows: there is room for half of what is left
-pub record Turn (n m step : ℕ) : Type 0 where
-  pub few : m ≤ 32
-  pub some : 0 < m / 2
-  pub step_some : 0 < step
-  pub step_small : step ≤ 16
-  pub whole : 2 * (m / 2) ≡ m
-  pub product : n ≡ 2 * (m / 2) * step
+-- a whole line
+pub whole_power : (n : ℕ) → is_side n ≡ true → Power n
+whole_power =
+    each_side Power (record { e = 1; is = refl; small = omega arith }) (record { e = 2; is = refl; small = omega arith })
+    (record { e = 3; is = refl; small = omega arith }) (record { e = 4; is = refl; small = omega arith })
 
-module _ {n m step shift : ℕ} {src : List ℤ} {j line : ℕ} {x o : List ℤ} (g : Going n m step shift src j line x o) (room : 0 < n) (small : n ≤ 32) where
-  pub turn : 1 < m → Turn n m step
-  turn b =
-      let h = halved m g.power b in
-      let w = h.twice in
-      let e = g.product in
-      let few : m ≤ 2 ^ 5 = subst (λ (k : ℕ). k ≤ 2 ^ 5) (sym g.power.is) (pow_mono g.power.small) in
-      let some = step_some (step) e in
-      let l : 2 * step ≤ m * step = mul-le-mul_right step (omega arith) in
-      record { few = few; some = omega arith; step_some = some; step_small = omega arith; whole = w; product = sym (ap (λ (k : ℕ). k * step) w ∙ e) }
-    where
-      step_some : (s : ℕ) → m * s ≡ n → 0 < s
-      step_some zero e = absurd (omega (arith, native.Mathlib.Nat.mul-zero m))
-      step_some (suc s) e = omega arith
+-- ---- a stage of m numbers, of which h are left
 
-  pub going_next : {fs : ℕ} {ts ss o' : List ℤ} → 1 < m → IsKernel n fs ts → Halved fs (m / 2) step shift ts x 0 1 o ss o'
-      → Going n (m / 2) (2 * step) shift src j line ss o'
-  going_next b t f =
-      let h = halved m g.power b in
-      let r = turn b in
-      record {
-        partly = stage n (m / 2) step r.product r.step_some h.mirrors t
-            (subst (λ (k : ℕ). Partly n step k shift (line_at src j line) x 0 1 o) (sym h.twice) g.partly) f;
-        product = regroup (m / 2) step ∙ sym r.product;
-        power = h.half;
-      }
-    where
-      regroup : (h s : ℕ) → h * (2 * s) ≡ 2 * h * s
-      regroup h s = sym (mul_assoc h 2 s) ∙ ap (λ (k : ℕ). k * s) (mul_comm h 2)
+module _ (m step : ℕ) {fs sample count lo : ℕ} {ts : List ℤ} (p : Power m) (r : Staging m step fs sample count lo ts) {h : ℕ} (e : h ≡ m / 2) where
+  twice : m ≡ 2 * h
+  twice = rw e (halved m p).twice
 
-  -- one number is left
-  pub going_end : m ≤ 1 → Partly n n 1 shift (line_at src j line) x 0 1 o
-  going_end b =
-      let p = pow_pos g.power.e in
-      let i = g.power.is in
-      let one : m ≡ 1 = omega arith in
-      let all : step ≡ n = sym (one-mul step) ∙ ap (λ (k : ℕ). k * step) (sym one) ∙ g.product in
-      subst (λ (k : ℕ). Partly n k 1 shift (line_at src j line) x 0 1 o) all
-      (subst (λ (k : ℕ). Partly n step k shift (line_at src j line) x 0 1 o) one g.partly)
+  as_twice : Staging (2 * h) step fs sample count lo ts
+  as_twice = subst (λ (k : ℕ). Staging k step fs sample count lo ts) twice r
+
+  mirrored : Mirrors (2 * h)
+  mirrored = subst (λ (k : ℕ). Mirrors (2 * k)) (sym e) (halved m p).mirrors
+
+  pub halve_asked : (sample ≡ 1) × Halving fs h step (length ts) count lo
+  halve_asked = halving_asked h step as_twice (subst (λ (k : ℕ). 0 < k) (sym e) (halved m p).some)
+
+  pub rest_staged : {count' lo' : ℕ} → count' ≡ h → lo' ≡ lo → Staging count' (2 * step) fs sample count' lo' ts
+  rest_staged {count'} {lo'} u v = subst (λ (k : ℕ). Staging k (2 * step) fs sample count' lo' ts) (sym u) (rest_asked h step as_twice u v)
+
+  module _ {shift : ℕ} {xs : List ℤ} {at stride : ℕ} {o ss o₁ o' : List ℤ} (f : Halved fs h step shift ts xs at stride o ss o₁) where
+    pub rest_completed : {count' : ℕ} → count' ≡ h → Completes count' (2 * step) shift ss 0 1 o₁ o' → Completes m step shift xs at stride o o'
+    rest_completed {count'} u c =
+        subst (λ (k : ℕ). Completes k step shift xs at stride o o') (sym twice)
+        (completed h step as_twice mirrored f (subst (λ (k : ℕ). Completes k (2 * step) shift ss 0 1 o₁ o') u c))
+
+    pub one_completed : h ≡ 1 → o' ≡ stores o₁ 1 (place 0 1) (rounded shift 1 ts 0 1 fs 1 ss 0 1) → Completes m step shift xs at stride o o'
+    one_completed u v =
+        let two : m ≡ 2 = omega (arith, twice) in
+        subst (λ (k : ℕ). Completes k step shift xs at stride o o') (sym two)
+        (last_completed step (subst (λ (k : ℕ). Staging k step fs sample count lo ts) two r) (mirror 0 (omega arith))
+        (subst (λ (k : ℕ). Halved fs k step shift ts xs at stride o ss o₁) u f) v)
+
+pub sums_long : (m : ℕ) → Power m → length (take (m / 2) (replicate 16 (pos 0))) ≡ m / 2
+sums_long m p = length-take-le (m / 2) (replicate 16 (pos 0)) (halved m p).few
+
+pub zeroth_asked : (m step : ℕ) {fs sample count lo : ℕ} {ts : List ℤ} → Power m → Staging m step fs sample count lo ts → (0 < length ts) × (0 < lo)
+zeroth_asked m step p r =
+    let s = r.some in let h = (halved m p).some in
+    let some : 1 * 1 ≤ m * step = mul-le-mul {n₁ = 1} {m₁ = 1} {n₂ = m} {m₂ = step} (omega (arith, (halved m p).twice)) (omega arith) in
+    let i = r.kernel.inside 0 0 (omega arith) (omega arith) in
+    let room = r.room in
+    (omega arith, omega arith)

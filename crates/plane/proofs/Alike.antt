@@ -11,7 +11,8 @@ use lib.IntN.{ℤ}
 use Rattle.laws.proofs.Bool.{both, same_test}
 use Rattle.laws.proofs.Laid.{tab_ext}
 use Rattle.answer.specs.Answer.{answers}
-use Rattle.tickets.specs.Batch.{Batch, with_batch}
+use Rattle.tickets.specs.Batch.{with_batch}
+use Rattle.tickets.specs.declared.Batch.{Batch}
 use Rattle.plane.specs.Places.{overlap}
 use Rattle.plane.specs.Plane.{no_tile, tile_at, is_open, area_of, with_ticket, with_tile, sides_ok, plane_ok, smallest, first_free, has_place, open_answer, open_for, tile_answer}
 use Rattle.plane.specs.Batch.{with_marks}

@@ -7,15 +7,19 @@ use Prim.Native.Nat.{ℕ, suc, ◌+◌, ◌-◌, ◌≤◌, ◌<◌}
 use native.Mathlib.Omega.{arith}
 use borrow.Author.Tests.{le-ltb}
 use lib.Dec.{ltb}
-use lib.ListN.{get_or, set, replicate, get_or-replicate}
+use lib.ListN.{length, get_or, set, replicate, get_or-replicate}
+use Rattle.std.proofs.lemmas.List.{get_or_past}
+use Rattle.std.specs.Bool.{MatchBool}
+use Rattle.std.specs.List.{AllWithin, HoldsAt}
 use Rattle.laws.specs.Table.{every}
 use Rattle.laws.proofs.Bool.{same_test}
-use Rattle.laws.proofs.Every.{every_all, every_each}
+use Rattle.laws.proofs.Every.{every_all, every_each, every_not}
 use Rattle.laws.proofs.Place.{split}
-use Rattle.laws.proofs.Store.{Stored, stored_none, stored_turn, stored_length, stores_in, stores_out}
-use Rattle.plane.specs.Bounds.{bounds_of, bounds_in, meet, clear_at, clear_all, BoundsRoom}
+use Rattle.laws.proofs.Store.{Stored, stored_none, stored_turn, stores_in, stores_out}
+use Rattle.plane.specs.Bounds.{bounds_of, bounds_in, meet, clear_at, clear_all, InLargest}
 use Rattle.plane.specs.Places.{overlap}
 use Rattle.plane.specs.Plane.{no_tile, tile_at, is_open, sides_ok, tile_ok, clash, apart}
+use Rattle.plane.specs.declared.AllBounds.{AllBounds}
 use Rattle.plane.specs.declared.Bounds.{Bounds}
 use Rattle.plane.specs.declared.Plane.{Plane}
 use Rattle.plane.specs.declared.Tile.{Tile}
@@ -30,34 +34,28 @@ zeros = replicate 32 0
 abbrev HasBound : Plane → ℕ → (Bounds → ℕ) → List ℕ → Type 0
 HasBound p n f d = Stored d zeros n (λ i. i) (λ i. f (bounds_of (tile_at p i)))
 
-pub record Bounded (p : Plane) (n : ℕ) (lefts rights tops bottoms : List ℕ) : Type 0 where
-  pub left : HasBound p n (λ b. b.left) lefts
-  pub right : HasBound p n (λ b. b.right) rights
-  pub top : HasBound p n (λ b. b.top) tops
-  pub bottom : HasBound p n (λ b. b.bottom) bottoms
+pub record Bounded (p : Plane) (n : ℕ) (all : AllBounds) : Type 0 where
+  pub left : HasBound p n (λ b. b.left) all.lefts
+  pub right : HasBound p n (λ b. b.right) all.rights
+  pub top : HasBound p n (λ b. b.top) all.tops
+  pub bottom : HasBound p n (λ b. b.bottom) all.bottoms
 
-pub bounded_none : {p : Plane} → Bounded p 0 zeros zeros zeros zeros
+abbrev pub all_of : List ℕ → List ℕ → List ℕ → List ℕ → AllBounds
+all_of lefts rights tops bottoms = record { lefts = lefts; rights = rights; tops = tops; bottoms = bottoms }
+
+pub bounded_none : {p : Plane} → Bounded p 0 (all_of zeros zeros zeros zeros)
 bounded_none = record { left = stored_none; right = stored_none; top = stored_none; bottom = stored_none }
 
-module _ {p : Plane} {n : ℕ} {lefts rights tops bottoms : List ℕ} (k : Bounded p n lefts rights tops bottoms) where
+module _ {p : Plane} {n : ℕ} {all : AllBounds} (k : Bounded p n all) where
   -- a turn stores those of tile n
   pub bounded_turn : {b : Bounds} → b ≡ bounds_of (tile_at p n)
-      → Bounded p (n + 1) (set lefts n b.left) (set rights n b.right) (set tops n b.top) (set bottoms n b.bottom)
+      → Bounded p (n + 1) (all_of (set all.lefts n b.left) (set all.rights n b.right) (set all.tops n b.top) (set all.bottoms n b.bottom))
   bounded_turn e =
       record {
         left = stored_turn k.left refl (ap (λ (b : Bounds). b.left) e);
         right = stored_turn k.right refl (ap (λ (b : Bounds). b.right) e);
         top = stored_turn k.top refl (ap (λ (b : Bounds). b.top) e);
         bottom = stored_turn k.bottom refl (ap (λ (b : Bounds). b.bottom) e);
-      }
-
-  pub bounds_room : BoundsRoom lefts rights tops bottoms
-  bounds_room =
-      record {
-        long_lefts = stored_length k.left;
-        long_rights = stored_length k.right;
-        long_tops = stored_length k.top;
-        long_bottoms = stored_length k.bottom;
       }
 
 -- ---- two tiles meet where they clash
@@ -79,6 +77,9 @@ meet_clash s t =
 
 -- ---- after all sixteen
 
+no_tile_past : (p : Plane) (i : ℕ) → length p.tiles ≤ i → tile_at p i ≡ no_tile
+no_tile_past p i l = get_or_past p.tiles i no_tile l
+
 module _ {d : List ℕ} {g : ℕ → ℕ} (s : Stored d zeros 16 (λ i. i) g) (i : ℕ) where
   at_tile : i < 16 → get_or d i 0 ≡ g i
   at_tile l = ap (λ (x : List ℕ). get_or x i 0) s.is ∙ stores_in zeros 16 (λ i. i) g i 0 l (omega arith) (λ j m e. e)
@@ -87,22 +88,33 @@ module _ {d : List ℕ} {g : ℕ → ℕ} (s : Stored d zeros 16 (λ i. i) g) (i
   past_tiles l m =
       ap (λ (x : List ℕ). get_or x i 0) s.is ∙ stores_out zeros 16 (λ i. i) g i 0 (λ j n e. omega arith) ∙ get_or-replicate 32 i 0 0 m
 
-module _ {p : Plane} {lefts rights tops bottoms : List ℕ} (k : Bounded p 16 lefts rights tops bottoms) where
-  abbrev b : ℕ → Bounds
-  b = bounds_in lefts rights tops bottoms
-
-  of_tile : (i : ℕ) → i < 16 → b i ≡ bounds_of (tile_at p i)
+-- the bounds of every tile, and of none past the last
+module _ {p : Plane} {all : AllBounds} (many : length p.tiles ≡ 16) (k : Bounded p 16 all) where
+  of_tile : (i : ℕ) → i < 16 → bounds_in all i ≡ bounds_of (tile_at p i)
   of_tile i l = rw (at_tile k.left i l, at_tile k.right i l, at_tile k.top i l, at_tile k.bottom i l)
 
-  of_none : (i : ℕ) → 16 ≤ i → i < 32 → b i ≡ bounds_of no_tile
-  of_none i l m = rw (past_tiles k.left i l m, past_tiles k.right i l m, past_tiles k.top i l m, past_tiles k.bottom i l m)
+  of_none : (i : ℕ) → 16 ≤ i → i < 32 → bounds_in all i ≡ bounds_of (tile_at p i)
+  of_none i l m =
+      rw (
+        past_tiles k.left i l m,
+        past_tiles k.right i l m,
+        past_tiles k.top i l m,
+        past_tiles k.bottom i l m,
+        no_tile_past p i (omega arith),
+      )
 
+  pub all_bounds : (i : ℕ) → i < 32 → bounds_in all i ≡ bounds_of (tile_at p i)
+  all_bounds i m = ⊎_elim (λ l. of_tile i l) (λ l. of_none i l m) (split i 16)
+
+module _ (p : Plane) (many : length p.tiles ≡ 16) (b : ℕ → Bounds) (is : (i : ℕ) → i < 32 → b i ≡ bounds_of (tile_at p i)) where
   pair : (i j : ℕ) → i < 16 → j < 16 → not (meet (b j) (b i)) ≡ not (clash (tile_at p i) (tile_at p j))
-  pair i j l m = ap not (ap₂ meet (of_tile j m) (of_tile i l) ∙ meet_clash (tile_at p i) (tile_at p j))
+  pair i j l m = ap not (ap₂ meet (is j (omega arith)) (is i (omega arith)) ∙ meet_clash (tile_at p i) (tile_at p j))
 
   -- a tile meets none past the last
   pair_none : (i j : ℕ) → 16 ≤ i → i < 32 → j < 16 → not (meet (b j) (b i)) ≡ true
-  pair_none i j l m n = ap not (ap₂ meet (of_tile j n) (of_none i l m) ∙ meet_clash no_tile (tile_at p j))
+  pair_none i j l m n =
+      ap not
+      (ap₂ meet (is j (omega arith)) (is i m ∙ ap bounds_of (no_tile_past p i (omega arith))) ∙ meet_clash no_tile (tile_at p j))
 
   -- of two tiles, the one of the smaller number is tested with the other, which is k + 1 numbers on
   clear_apart : clear_all b ≡ true → apart p ≡ true
@@ -138,9 +150,19 @@ module _ {p : Plane} {lefts rights tops bottoms : List ℕ} (k : Bounded p 16 le
 
 -- ---- an open tile that keeps its rules lies in the largest plane
 
-pub in_largest : (w h : ℕ) (t : Tile) → sides_ok w h ≡ true → tile_ok w h t ≡ true → is_open t ≡ true
-    → (t.x + t.ticket.w ≤ 256) × (t.y + t.ticket.h ≤ 256)
+pub in_largest : (w h : ℕ) (t : Tile) → sides_ok w h ≡ true → tile_ok w h t ≡ true → InLargest t
 in_largest w h t s e o =
     let a = sides s in
     let l = lying (tile_rules w h t e o) in
     (omega arith, omega arith)
+
+-- ---- a test of every tile
+
+-- what is asked of a tile in a plane of these sides, and the answer
+abbrev pub asks_ok : ℕ → ℕ → Bool → Tile → Type 0
+asks_ok w h x t = x ≡ tile_ok w h t
+
+pub all_ok : (p : Plane) (r : Bool) → length p.tiles ≡ 16 → MatchBool r (AllWithin (asks_ok p.w p.h true) p.tiles 0 (length p.tiles))
+    ((k : ℕ) × (k < length p.tiles) × HoldsAt (asks_ok p.w p.h false) p.tiles k) → r ≡ every 16 (λ i. tile_ok p.w p.h (tile_at p i))
+all_ok p true many h = sym (every_all 16 (λ i. tile_ok p.w p.h (tile_at p i)) (λ i b. sym (h i no_tile (omega arith) (omega arith))))
+all_ok p false many h = sym (every_not 16 (λ i. tile_ok p.w p.h (tile_at p i)) h.0 (omega arith) (sym (h.2 no_tile)))

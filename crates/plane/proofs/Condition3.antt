@@ -12,7 +12,7 @@ use lib.ListN.{length}
 use Rattle.laws.proofs.Bool.{both, decided}
 use Rattle.answer.specs.Answer.{Answer, answers, lowest}
 use Rattle.block.specs.Answer.{refusals}
-use Rattle.tickets.specs.Batch.{Batch}
+use Rattle.tickets.specs.declared.Batch.{Batch}
 use Rattle.tickets.specs.Open.{new_ticket}
 use Rattle.tickets.specs.Open as block
 use Rattle.tickets.specs.Run.{State, state_at, run}

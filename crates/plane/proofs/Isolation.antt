@@ -9,7 +9,8 @@ use lib.IntN.{ℤ, pos}
 use lib.ListN.{length, replicate, length-replicate}
 use Rattle.laws.proofs.Bool.{decided}
 use Rattle.answer.specs.Answer.{Answer, answers, refuses}
-use Rattle.tickets.specs.Batch.{Batch, answer_unless}
+use Rattle.tickets.specs.Batch.{answer_unless}
+use Rattle.tickets.specs.declared.Batch.{Batch}
 use Rattle.plane.specs.Plane.{no_tile, tile_at, area_of, new_tile, with_tile, plane_ok, plane_after, made, first_free, open_answer, tile_answer, opening, closing}
 use Rattle.plane.specs.Batch.{with_marks, marks, unless, columns_in, rows_in}
 use Rattle.plane.specs.Calls.{Call, opens, closes, batches, world_at, Turn, plan_turn, column_turn, row_turn, turn}

@@ -11,7 +11,8 @@ use lib.IntN.{ℤ}
 use lib.ListN.{length}
 use Rattle.answer.specs.Answer.{Answer, answers, refuses, lowest, after}
 use Rattle.sizes.proofs.Side.{side_bounds}
-use Rattle.tickets.specs.Batch.{Batch, answer_unless, lines_of}
+use Rattle.tickets.specs.Batch.{answer_unless, lines_of}
+use Rattle.tickets.specs.declared.Batch.{Batch}
 use Rattle.tickets.specs.Run.{state_at}
 use Rattle.tickets.specs.declared.Ticket.{Ticket}
 use Rattle.plane.specs.Places.{tile_of, put_tile}

@@ -12,12 +12,13 @@ use lib.ListN.{length}
 use Rattle.laws.proofs.Bool.{decided}
 use Rattle.laws.proofs.Laid.{length_laid}
 use Rattle.answer.specs.Answer.{Answer, answers, refuses, after}
-use Rattle.tickets.specs.Batch.{Batch, line_length, answer_unless, with_batch, lines_of, ticket_after, batch}
+use Rattle.tickets.specs.Batch.{line_length, answer_unless, with_batch, lines_of, ticket_after, batch}
+use Rattle.tickets.specs.declared.Batch.{Batch}
 use Rattle.tickets.specs.Run.{state_at, Step, step}
 use Rattle.tickets.specs.declared.Ticket.{Ticket}
-use Rattle.tickets.proofs.Batch.{taken}
+use Rattle.tickets.proofs.Taken.{taken}
 use Rattle.tickets.proofs.Step.{step_column, step_row}
-use Rattle.previews.proofs.Preview.{ends_in, lines_laid}
+use Rattle.previews.proofs.Shown.{ends_in, lines_laid}
 use Rattle.plane.specs.Places.{Area, tile_of, put_tile}
 use Rattle.plane.specs.Plane.{tile_at, is_open, area_of, with_ticket}
 use Rattle.plane.specs.Batch.{Kept, with_marks, marks, unless, columns_in, rows_in}

@@ -8,14 +8,16 @@ use native.Mathlib.Nat.{mul_comm, suc-mul, mul-one, mul-le-mul_left, mul-le-mul_
 use native.Mathlib.Omega.{arith}
 use lib.Arith.{digits_lt, digits_div, digits_mod}
 use lib.IntN.{ℤ, pos}
-use lib.ListN.{length, get_or, take, drop}
+use lib.ListN.{length, get_or, take, drop, length-drop}
+use borrow.Rule.Slice.PartMut.{put_mid}
+use Rattle.std.proofs.lemmas.List.{length-take-le}
 use lib.Seq.{ext_get_or, get_or-take, get_or-drop}
 use Rattle.laws.specs.Store.{stores, grid, laid}
 use Rattle.laws.proofs.Bool.{both, decided}
 use Rattle.laws.proofs.Laid.{laid_before, laid_at, laid_after}
+use Rattle.laws.proofs.Pasted.{copied}
 use Rattle.laws.proofs.Place.{split, place_same}
 use Rattle.laws.proofs.Store.{stores_ext, length_grid, grid_in, grid_out}
-use Rattle.lines.specs.Line.{from, number}
 use Rattle.tickets.specs.Mark.{within}
 use Rattle.tickets.proofs.Mark.{within_lt}
 use Rattle.plane.specs.Places.{Area, place_of, tile_of, is_in, put_tile, plane_place, line_number}
@@ -40,11 +42,16 @@ in_row w lines width x y i lb lo some a b c l =
       low = omega (arith, mul-one (y + i), mul-le-mul_left {m = 1} {n = width} (y + i) (omega arith));
     }
 
--- a line of a buffer, stored
-pub line_stored : {e : List ℤ} (d buffer : List ℤ) (at w i m : ℕ) → w ≤ m
-    → e ≡ stores d w (from at) (number (take m (drop (i * w) buffer))) → e ≡ stores d w (from at) (line_number buffer w i)
-line_stored d buffer at w i m few e =
-    e ∙ stores_ext d w (from at) _ _ (λ k l. get_or-take m (drop (i * w) buffer) k (pos 0) (omega arith) ∙ get_or-drop (i * w) buffer k (pos 0))
+-- a line of a buffer, copied
+pub line_copied : (d buffer : List ℤ) (at w i : ℕ) {l : List ℤ} → i * w + w ≤ length buffer → at + w ≤ length d
+    → l ≡ take (i * w + w - i * w) (drop (i * w) buffer)
+    → put_mid at (at + w - at) d l ≡ stores d w (λ k. at + k) (line_number buffer w i)
+line_copied d buffer at w i room long e =
+    let n : i * w + w - i * w ≡ w = omega arith in
+    copied d at w (pos 0)
+    (length-take-le (i * w + w - i * w) (drop (i * w) buffer) (omega (arith, length-drop (i * w) buffer)) ∙ n) e long
+    ∙ stores_ext d w (λ k. at + k) _ _
+    (λ k l. get_or-take (i * w + w - i * w) (drop (i * w) buffer) k (pos 0) (omega arith) ∙ get_or-drop (i * w) buffer k (pos 0))
 
 -- ---- a plane by its places: those of a tile, and the others
 

@@ -13,7 +13,8 @@ use lib.ListN.{length, get_or, get_or-eq_default}
 use Rattle.laws.proofs.Bool.{both, decided}
 use Rattle.laws.proofs.Place.{split}
 use Rattle.answer.specs.Answer.{Answer, answers, refuses, after}
-use Rattle.tickets.specs.Batch.{Batch, answer_unless, lines_of}
+use Rattle.tickets.specs.Batch.{answer_unless, lines_of}
+use Rattle.tickets.specs.declared.Batch.{Batch}
 use Rattle.plane.specs.Places.{Area, overlap, is_in, tile_of, put_tile}
 use Rattle.plane.specs.Plane.{no_tile, tile_at, is_open, area_of, new_tile, with_tile, ticket_ok, placed, plane_ok, tile_answer, plane_after, first_free, has_place, made, opening, closing}
 use Rattle.plane.specs.Batch.{Kept, unless, columns_in, rows_in}

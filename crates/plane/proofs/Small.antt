@@ -9,7 +9,7 @@ use lib.IntN.{ℤ}
 use lib.ListN.{length}
 use Rattle.answer.specs.Answer.{Answer, answers, refuses, is_small}
 use Rattle.answer.proofs.Answer.{lowest_small}
-use Rattle.tickets.specs.Batch.{Batch}
+use Rattle.tickets.specs.declared.Batch.{Batch}
 use Rattle.tickets.proofs.Played.{answer_small}
 use Rattle.plane.specs.Batch.{Kept, unless, columns_in, rows_in}
 use Rattle.plane.specs.Places.{tile_of}

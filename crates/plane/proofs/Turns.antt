@@ -7,7 +7,8 @@ use lib.Dec.{ltb}
 use lib.IntN.{ℤ}
 use lib.ListN.{length}
 use Rattle.answer.specs.Answer.{Answer, answers, refuses}
-use Rattle.tickets.specs.Batch.{Batch, answer_unless, with_batch}
+use Rattle.tickets.specs.Batch.{answer_unless, with_batch}
+use Rattle.tickets.specs.declared.Batch.{Batch}
 use Rattle.tickets.specs.declared.Ticket.{Ticket}
 use Rattle.tickets.proofs.Order.{order_after}
 use Rattle.plane.specs.Places.{tile_of}

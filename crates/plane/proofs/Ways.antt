@@ -1,58 +1,36 @@
--- The ways out of a call: with all as lent, or with its record changed. Assumes nothing.
+-- The ways out of a batch of a tile, with its tile named: with all as lent, or with its record changed. Assumes nothing.
 use mathlib.Core.Path.{◌≡◌, sym, ap, ◌∙◌}
 use mathlib.Core.List.{List}
 use Prim.Native.Nat.{ℕ}
 use lib.IntN.{ℤ}
 use lib.ListN.{length}
-use Rattle.answer.specs.Answer.{Answer, told}
-use Rattle.answer.specs.declared.Outcome.{Outcome}
-use Rattle.answer.specs.declared.Outcome.TheVariants.{Done, Refused}
+use Rattle.answer.specs.Answer.{Answer, answers, refuses, number_of, told}
+use Rattle.std.specs.Prelude.{Ok, Err}
 use Rattle.answer.specs.declared.Refusal.{Refusal}
-use Rattle.tickets.specs.Batch.{Batch, batch_answer, lines_of, Given, gives, batch}
+use Rattle.tickets.specs.Batch.{batch_answer, lines_of, Given, gives, batch}
+use Rattle.tickets.specs.declared.Batch.{Batch}
 use Rattle.tickets.specs.declared.Batched.{Batched}
 use Rattle.tickets.specs.declared.Ticket.{Ticket}
-use Rattle.plane.specs.Batch.{Kept, kept, with_marks, marks, unless, columns_in}
-use Rattle.plane.specs.Plane.{tile_at, with_ticket, with_tile, tile_answer, plane_after, Planned, planned}
+use Rattle.plane.specs.Batch.{Kept, with_marks, marks, unless, columns_in}
+use Rattle.plane.specs.Plane.{tile_at, with_ticket, with_tile, tile_answer}
 use Rattle.plane.specs.declared.Plane.{Plane}
-use Rattle.plane.proofs.Known.{TileKnown, tile_known}
 
--- ---- a call that writes no buffer
+abbrev pub gave : Answer → Plane → List ℤ → Kept
+gave a p buffer = record { answer = a; plane = p; buffer = buffer }
 
-abbrev changes : Answer → Plane → Plane → Planned
-changes a new old = record { answer = a; plane = plane_after a new old }
+-- tile: the answer by 13 and 14; a: the answer of the tile's ticket
+module _ (p : Plane) {tile a : Answer} (n : ℕ) (e : answers n ≡ tile) (b : Batch) (written buffer : List ℤ) where
+  pub not_marked : {k : ℕ} {d : List ℤ} → refuses k ≡ a → d ≡ buffer → gave (refuses k) p d ≡ unless tile p buffer (marks p n b a written buffer)
+  not_marked f y = rw (sym e, sym f, y)
 
-module _ {o : Outcome} {a : Answer} (new old : Plane) (e : told o ≡ a) where
-  pub as_lent : {x : Refusal} → o ≡ Refused x → planned (record { plane = old; outcome = o }) ≡ changes a new old
-  as_lent u = rw (sym e, u)
-
-  pub changed : {n : ℕ} {p : Plane} → o ≡ Done n → p ≡ new → planned (record { plane = p; outcome = o }) ≡ changes a new old
-  changed u v = rw (sym e, u, v)
-
--- ---- a call that names a room and a tile
-
-pub named : {p : Plane} {room n m : ℕ} {o : Outcome} → told o ≡ tile_answer p room n → o ≡ Done m → TileKnown p room n m
-named e u = tile_known _ _ _ _ (sym (ap told u) ∙ e)
-
--- tile: the answer by 13 and 14
-module _ (p : Plane) {o : Outcome} {tile : Answer} (e : told o ≡ tile) where
-  pub not_named : {x : Refusal} (buffer : List ℤ) (k : Kept) → o ≡ Refused x
-      → kept (record { plane = p; outcome = o }) buffer ≡ unless tile p buffer k
-  not_named buffer k u = rw (sym e, u)
-
-  -- a batch of that tile, with its ticket's answer
-  module _ {m : ℕ} (u : o ≡ Done m) (n : ℕ) (b : Batch) (written buffer : List ℤ) {r : Outcome} {a : Answer} (f : told r ≡ a) where
-    pub not_marked : {x : Refusal} {d : List ℤ} → r ≡ Refused x → d ≡ buffer
-        → kept (record { plane = p; outcome = r }) d ≡ unless tile p buffer (marks p n b a written buffer)
-    not_marked v y = rw (sym e, u, sym f, v, y)
-
-    pub is_marked : {k : ℕ} {q : Plane} {d : List ℤ} → r ≡ Done k → q ≡ with_marks p n b → d ≡ written
-        → kept (record { plane = q; outcome = r }) d ≡ unless tile p buffer (marks p n b a written buffer)
-    is_marked v x y = rw (sym e, u, sym f, v, x, y)
+  pub is_marked : {m : ℕ} {q : Plane} {d : List ℤ} → answers m ≡ a → q ≡ with_marks p n b → d ≡ written
+      → gave (answers m) q d ≡ unless tile p buffer (marks p n b a written buffer)
+  is_marked f x y = rw (sym e, sym f, x, y)
 
 -- ---- a column batch, by what its ticket's batch has given back
 
-module _ (p : Plane) (room n : ℕ) (b : Batch) (residuals scratch : List ℤ) {o : Outcome} (e : told o ≡ tile_answer p room n) {m : ℕ} (u : o ≡ Done m)
-    (r : Batched) {d : List ℤ} (f : gives r d ≡ batch (tile_at p n).ticket b residuals scratch) where
+module _ (p : Plane) (room n : ℕ) (b : Batch) (residuals scratch : List ℤ) (e : answers n ≡ tile_answer p room n) (r : Batched) {d : List ℤ}
+    (f : gives r d ≡ batch (tile_at p n).ticket b residuals scratch) where
   abbrev t : Ticket
   t = (tile_at p n).ticket
 
@@ -60,16 +38,17 @@ module _ (p : Plane) (room n : ℕ) (b : Batch) (residuals scratch : List ℤ) {
   unfolding batch
   answer = ap (λ (g : Given). g.answer) f
 
-  pub columns_refused : {x : Refusal} → r.outcome ≡ Refused x
-      → kept (record { plane = p; outcome = r.outcome }) d ≡ columns_in p room n b residuals scratch
+  pub columns_refused : {x : Refusal} → r.outcome ≡ Err x → gave (refuses (number_of x)) p d ≡ columns_in p room n b residuals scratch
   unfolding columns_in batch
   columns_refused v =
-      not_marked p e u n b (lines_of t b residuals scratch) scratch answer v (ap (λ (g : Given). g.buffer) f ∙ rw (sym answer, v))
+      let is = sym (ap told v) ∙ answer in
+      not_marked p n e b (lines_of t b residuals scratch) scratch is (ap (λ (g : Given). g.buffer) f ∙ rw (sym is))
 
-  pub columns_done : {k : ℕ} {q : Plane} → r.outcome ≡ Done k → q ≡ with_tile p n (with_ticket (tile_at p n) r.ticket)
-      → kept (record { plane = q; outcome = r.outcome }) d ≡ columns_in p room n b residuals scratch
+  pub columns_done : {k : ℕ} → r.outcome ≡ Ok k
+      → gave (answers k) (with_tile p n (with_ticket (tile_at p n) r.ticket)) d ≡ columns_in p room n b residuals scratch
   unfolding columns_in batch
-  columns_done v w =
-      is_marked p e u n b (lines_of t b residuals scratch) scratch answer v
-      (w ∙ ap (λ (k : Ticket). with_tile p n (with_ticket (tile_at p n) k)) (ap (λ (g : Given). g.ticket) f ∙ rw (sym answer, v)))
-      (ap (λ (g : Given). g.buffer) f ∙ rw (sym answer, v))
+  columns_done v =
+      let is = sym (ap told v) ∙ answer in
+      is_marked p n e b (lines_of t b residuals scratch) scratch is
+      (ap (λ (k : Ticket). with_tile p n (with_ticket (tile_at p n) k)) (ap (λ (g : Given). g.ticket) f ∙ rw (sym is)))
+      (ap (λ (g : Given). g.buffer) f ∙ rw (sym is))

@@ -1,9 +1,12 @@
 -- Batches of a tile: "Batches name room and tile number".
-use Rattle.std.specs.Prelude.{false, List, ℕ, ◌*◌, ltb, ℤ, length}
+use Rattle.std.specs.Prelude.{false, List, ℕ, ◌*◌, ltb, ℤ, length, Result}
 use Rattle.answer.specs.Answer.{Answer, answers, refuses, after, told}
-use Rattle.tickets.specs.Batch.{Batch, answer_unless, with_batch, lines_of}
+use Rattle.answer.specs.declared.Refusal.{Refusal}
+use Rattle.tickets.specs.Batch.{answer_unless, with_batch, lines_of}
+use Rattle.tickets.specs.declared.Batch.{Batch}
 use Rattle.plane.specs.Places.{tile_of, put_tile}
-use Rattle.plane.specs.Plane.{tile_at, area_of, with_ticket, with_tile, tile_answer, plane_after}
+use Rattle.plane.specs.Plane.{tile_at, area_of, with_ticket, with_tile, tile_answer, plane_after, planned_by}
+use Rattle.plane.specs.declared.change.Change.{Change}
 use Rattle.plane.specs.declared.Plane.{Plane}
 use Rattle.plane.specs.declared.Planed.{Planed}
 
@@ -15,6 +18,10 @@ pub record Kept : Type 0 where
 
 abbrev pub kept : Planed → List ℤ → Kept
 kept r buffer = record { answer = told r.outcome; plane = r.plane; buffer = buffer }
+
+-- and as the change of an accepted call makes them
+abbrev pub kept_by : Plane → Result Change Refusal → List ℤ → Kept
+kept_by p r buffer = let g = planned_by p r in record { answer = g.answer; plane = g.plane; buffer = buffer }
 
 -- the record with a batch of tile n marked: "the plane record carrying its ticket"
 abbrev pub with_marks : Plane → ℕ → Batch → Plane

@@ -1,7 +1,8 @@
 -- The bounds of tiles, in lists by number, and the test of all pairs on them.
-use Rattle.std.specs.Prelude.{◌≡◌, Bool, cond, not, ◌&&◌, List, ℕ, suc, ◌+◌, ltb, length, get_or}
+use Rattle.std.specs.Prelude.{◌≡◌, Bool, true, cond, not, ◌&&◌, ℕ, suc, ◌+◌, ◌≤◌, ltb, get_or}
 use Rattle.laws.specs.Table.{every}
 use Rattle.plane.specs.Plane.{is_open}
+use Rattle.plane.specs.declared.AllBounds.{AllBounds}
 use Rattle.plane.specs.declared.Bounds.{Bounds}
 use Rattle.plane.specs.declared.Tile.{Tile}
 
@@ -15,9 +16,8 @@ bounds_of t =
       bottom = cond (is_open t) (t.y + t.ticket.h) 0;
     }
 
-abbrev pub bounds_in : List ℕ → List ℕ → List ℕ → List ℕ → ℕ → Bounds
-bounds_in lefts rights tops bottoms i =
-    record { left = get_or lefts i 0; right = get_or rights i 0; top = get_or tops i 0; bottom = get_or bottoms i 0 }
+abbrev pub bounds_in : AllBounds → ℕ → Bounds
+bounds_in b i = record { left = get_or b.lefts i 0; right = get_or b.rights i 0; top = get_or b.tops i 0; bottom = get_or b.bottoms i 0 }
 
 -- two have a place in common
 abbrev pub meet : Bounds → Bounds → Bool
@@ -31,9 +31,6 @@ clear_at k b = every 16 (λ i. not (meet (b i) (b (i + k))))
 unfoldable pub clear_all : (ℕ → Bounds) → Bool
 clear_all b = every 15 (λ k. clear_at (suc k) b)
 
--- what the tests ask: room for a tile and for one 15 numbers on
-pub record BoundsRoom (lefts rights tops bottoms : List ℕ) : Type 0 where
-  pub long_lefts : length lefts ≡ 32
-  pub long_rights : length rights ≡ 32
-  pub long_tops : length tops ≡ 32
-  pub long_bottoms : length bottoms ≡ 32
+-- an open tile lies in the largest plane, so that its bounds are numbers of 16 bits
+abbrev pub InLargest : Tile → Type 0
+InLargest t = is_open t ≡ true → (t.x + t.ticket.w ≤ 256) × (t.y + t.ticket.h ≤ 256)

@@ -2,7 +2,7 @@
 -- record that the last call gave back".
 use Rattle.std.specs.Prelude.{cond, List, [], ◌∷◌, ℕ, ℤ, length}
 use Rattle.answer.specs.Answer.{Answer}
-use Rattle.tickets.specs.Batch.{Batch}
+use Rattle.tickets.specs.declared.Batch.{Batch}
 use Rattle.plane.specs.Plane.{new_tile, Planned, opening, closing}
 use Rattle.plane.specs.Batch.{Kept, columns_in, rows_in}
 use Rattle.plane.specs.declared.Plane.{Plane}

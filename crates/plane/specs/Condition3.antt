@@ -2,7 +2,7 @@
 -- being its output, and the plane record carrying its ticket."
 use Rattle.std.specs.Prelude.{◌≡◌, Bool, true, false, cond, not, ◌&&◌, List, [], ◌∷◌, ℕ, eqb, ℤ}
 use Rattle.answer.specs.Answer.{answers}
-use Rattle.tickets.specs.Batch.{Batch}
+use Rattle.tickets.specs.declared.Batch.{Batch}
 use Rattle.tickets.specs.Run.{State, state_at, Run}
 use Rattle.tickets.specs.Condition3.{settled}
 use Rattle.plane.specs.Places.{tile_of}

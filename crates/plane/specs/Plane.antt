@@ -1,8 +1,9 @@
 -- A plane record: its tiles, the rules that it keeps, and what making, opening and closing give back.
-use Rattle.std.specs.Prelude.{Bool, false, cond, not, ◌&&◌, ◌||◌, List, [], ◌∷◌, ℕ, zero, suc, ◌+◌, ◌*◌, ◌%◌, eqb, leb, ltb, ℤ, length, get_or, set}
+use Rattle.std.specs.Prelude.{Bool, false, cond, not, ◌&&◌, ◌||◌, List, [], ◌∷◌, ℕ, zero, suc, ◌+◌, ◌*◌, ◌%◌, eqb, leb, ltb, ℤ, length, get_or, set, Option, Some, None, Result, Ok, Err}
 use Rattle.laws.specs.Store.{tab}
 use Rattle.laws.specs.Table.{every}
-use Rattle.answer.specs.Answer.{Answer, answers, refuses, lowest, told}
+use Rattle.answer.specs.Answer.{Answer, answers, refuses, number_of, lowest, told}
+use Rattle.answer.specs.declared.Refusal.{Refusal}
 use Rattle.sizes.specs.Size.{is_side}
 use Rattle.residual.specs.Residual.{residuals_ok}
 use Rattle.block.specs.Answer.{has_kinds}
@@ -11,6 +12,7 @@ use Rattle.tickets.specs.Open.{new_ticket}
 use Rattle.tickets.specs.declared.Ticket.{Ticket}
 use Rattle.plane.specs.Places.{Area, overlap}
 use Rattle.plane.specs.declared.Tile.{Tile}
+use Rattle.plane.specs.declared.change.Change.{Change}
 use Rattle.plane.specs.declared.Plane.{Plane}
 use Rattle.plane.specs.declared.Planed.{Planed}
 use Rattle.plane.specs.declared.Site.{Site}
@@ -118,6 +120,16 @@ tile_answer p room n = lowest ((not (ltb room 2 && plane_ok p), 13) ∷ (not (op
 unfoldable pub make_answer : ℕ → ℕ → Answer
 make_answer w h = lowest ((not (sides_ok w h), 1) ∷ []) 0
 
+-- a number, or 16 where there is none
+abbrev pub number_or_16 : Option ℕ → ℕ
+number_or_16 (Some n) = n
+number_or_16 None = 16
+
+-- what a tile that a call names answers: its number n
+abbrev pub named_as : ℕ → Result Tile Refusal → Answer
+named_as n (Ok t) = answers n
+named_as n (Err why) = refuses (number_of why)
+
 -- ---- what calls give back
 
 -- "a refused call gives it back as lent"
@@ -132,6 +144,11 @@ pub record Planned : Type 0 where
 
 abbrev pub planned : Planed → Planned
 planned r = record { answer = told r.outcome; plane = r.plane }
+
+-- and as the change of an accepted call makes them
+abbrev pub planned_by : Plane → Result Change Refusal → Planned
+planned_by p (Ok c) = record { answer = answers c.answer; plane = with_tile p c.n c.tile }
+planned_by p (Err why) = record { answer = refuses (number_of why); plane = p }
 
 -- a plane with no tile open
 unfoldable pub made : ℕ → ℕ → Plane

@@ -1,19 +1,26 @@
 // Two rooms on one frame plane: up to sixteen open tiles, each a block of one room, that share one output.
 #![tactic(auto)]
 
-ghost use Rattle.std.specs.Prelude.{◌≡◌, true, false, ◌+◌, ◌*◌, ◌≤◌, ◌<◌, ltb, length};
+mod change;
+
+ghost use Rattle.std.specs.Prelude.{◌≡◌, true, false, not, ℕ, ◌+◌, ◌*◌, ◌≤◌, ◌<◌, ltb, length, IfSome, IfOk, MatchResult, is_ok};
 ghost use Rattle.laws.specs.Store.{grid};
-ghost use Rattle.answer.specs.Answer.{told};
+ghost use Rattle.laws.specs.Table.{every};
+ghost use Rattle.answer.specs.declared.Refusal.TheVariants.{BadTile};
 ghost use Rattle.tickets.specs.Batch.{batch_of};
 ghost use Rattle.plane.specs.Places.{plane_place, line_number};
-ghost use Rattle.plane.specs.Plane.{is_open, new_tile, no_tile, with_ticket, with_tile, sides_ok, ticket_ok, placed, tile_ok, plane_ok, first_free, open_answer, open_for, tile_answer, made, planned, making, opening, closing};
-ghost use Rattle.plane.specs.Bounds.{bounds_of, bounds_in, clear_at, clear_all, BoundsRoom};
-ghost use Rattle.plane.specs.Batch.{kept, columns_in, rows_in};
+ghost use Rattle.plane.specs.Plane.{is_open, tile_at, new_tile, no_tile, with_tile, sides_ok, ticket_ok, placed, tile_ok, plane_ok, number_or_16, first_free, has_place, open_for, tile_answer, named_as, made, planned, planned_by, making, opening, closing};
+ghost use Rattle.plane.specs.Bounds.{bounds_of, bounds_in, clear_at, clear_all, InLargest};
+ghost use Rattle.plane.specs.Batch.{kept, kept_by, columns_in, rows_in};
 
 use answer::{Outcome, Refusal};
-use tickets::Ticket;
+use block::Shape;
+use change::Change;
+use sizes::Size;
+use tickets::{Batch, Ticket};
 
-// One number of a plane. Open where `opened` isn't 0; a closed one may hold anything, and nothing of it is looked at.
+// One number of a plane. Open where `opened` isn't 0; a closed one may hold anything, and nothing of it is looked at. This is the C
+// interface's record: it lends tiles with any room and kinds, which are refused by 13 and 2, so that narrower types would ask more.
 #[repr(C)]
 #[derive(Clone, Copy)]
 pub struct Tile {
@@ -33,14 +40,14 @@ pub struct Plane {
     pub tiles: [Tile; 16],
 }
 
-// What a call gives back: the record for the next call, and the outcome.
+// What a call gives back: the record for the next call whether it is accepted or refused, so that this isn't a Result of the two.
 #[derive(Drop)]
 pub struct Planed {
     pub plane: Plane,
     pub outcome: Outcome,
 }
 
-// Where a room wants a tile, and its block's sides and kinds.
+// Where a room wants a tile, and its block's sides and kinds. The room and the kinds are any, as a tile's are.
 #[derive(Clone, Copy)]
 pub struct Site {
     pub room: u32,
@@ -61,7 +68,18 @@ struct Bounds {
     bottom: u16,
 }
 
+// The bounds of a plane's tiles by their numbers; past the last tile there are bounds of no tile. Four arrays, so that the compiler
+// tests sixteen pairs side by side.
+#[derive(Drop)]
+struct AllBounds {
+    lefts: [u16; 32],
+    rights: [u16; 32],
+    tops: [u16; 32],
+    bottoms: [u16; 32],
+}
+
 // Whether a plane's sides are 4 to 256.
+#[tactic(auto, unfolding(crate::specs::Plane::sides_ok))]
 fn sides_ok(w: usize, h: usize) -> bool
     ensures { result ≡ sides_ok w h }
 {
@@ -69,6 +87,7 @@ fn sides_ok(w: usize, h: usize) -> bool
 }
 
 // Whether a tile lies in a plane of these sides, at multiples of 4, and is of room 0 or 1.
+#[tactic(auto, unfolding(crate::specs::Plane::placed))]
 fn is_placed(w: usize, h: usize, t: Tile) -> bool
     ensures { result ≡ placed w h t }
 {
@@ -76,29 +95,29 @@ fn is_placed(w: usize, h: usize, t: Tile) -> bool
         & (((t.x % 4 == 0) & (t.y % 4 == 0)) & (t.room < 2))
 }
 
-// Whether a ticket keeps the rules of 1, 2 and 6.
-fn ticket_ok(t: Ticket) -> bool
-    ensures { result ≡ ticket_ok t }
+// A ticket's block, where the ticket keeps the rules of 1, 2 and 6.
+#[tactic(auto, unfolding(crate::specs::Plane::ticket_ok), using(sizes::proofs::Side::side_bounds))]
+fn shape_of(t: Ticket) -> Result<Shape, Refusal>
+    ensures { is_ok result ≡ ticket_ok t }
 {
-    if !(sizes::is_side(t.w) & sizes::is_side(t.h)) {
-        return false;
+    let size = Size::new(t.w, t.h)?;
+    let shape = Shape::new(size, t.column_kind, t.row_kind)?;
+    if tickets::out_of_order(t, false) {
+        return Err(Refusal::BatchOrder);
     }
-    block::has_kinds(t.w, t.h, t.column_kind, t.row_kind) & !tickets::out_of_order(t, false)
+    Ok(shape)
 }
 
 // Whether a tile is closed, or keeps every rule that it can break alone.
+#[tactic(auto, unfolding(crate::specs::Plane::tile_ok))]
 fn tile_ok(w: usize, h: usize, t: Tile) -> bool
     ensures { result ≡ tile_ok w h t }
 {
-    if t.opened == 0 {
-        return true;
-    }
-    let ticket = t.ticket;
-    ticket_ok(ticket) & is_placed(w, h, t)
+    (t.opened == 0) || (shape_of(t.ticket).is_ok() & is_placed(w, h, t))
 }
 
 fn bounds_of(t: Tile) -> Bounds
-    requires { is_open t ≡ true → (t.x + t.ticket.w ≤ 256) × (t.y + t.ticket.h ≤ 256) }
+    requires { InLargest t }
     ensures { result ≡ bounds_of t }
 {
     if t.opened == 0 {
@@ -117,98 +136,90 @@ fn bounds_of(t: Tile) -> Bounds
     }
 }
 
-// Whether no tile has a place in common with the one whose number is k more, by their bounds.
-fn is_clear_at(lefts: &[u16], rights: &[u16], tops: &[u16], bottoms: &[u16], k: usize) -> bool
-    requires { (k < 16) × BoundsRoom lefts.now rights.now tops.now bottoms.now }
-    ensures { result ≡ clear_at k (bounds_in lefts.now rights.now tops.now bottoms.now) }
-{
-    let mut clear = true;
-    let mut i = 0;
-    while i < 16 {
-        let j = i + k;
-        clear = !(((lefts[i] < rights[j]) & (lefts[j] < rights[i]))
-            & ((tops[i] < bottoms[j]) & (tops[j] < bottoms[i])))
-            & clear;
-        i += 1;
+impl AllBounds {
+    fn new(p: &Plane) -> AllBounds
+        requires { (i : ℕ) → i < 16 → InLargest (tile_at p.now i) }
+        ensures { (i : ℕ) → i < 32 → bounds_in result i ≡ bounds_of (tile_at p.now i) }
+    {
+        let mut all = AllBounds {
+            lefts: [0; 32],
+            rights: [0; 32],
+            tops: [0; 32],
+            bottoms: [0; 32],
+        };
+        for i in 0..16 {
+            let b = bounds_of(p.tiles[i]);
+            all.lefts[i] = b.left;
+            all.rights[i] = b.right;
+            all.tops[i] = b.top;
+            all.bottoms[i] = b.bottom;
+        }
+        all
     }
-    clear
+
+    // Whether no tile has a place in common with the one whose number is k more.
+    #[inline(always)]
+    #[tactic(auto, unfolding(crate::specs::Bounds::clear_at))]
+    fn is_clear_at(&self, k: usize) -> bool
+        requires { k < 16 }
+        ensures { result ≡ clear_at k (bounds_in self.now) }
+    {
+        let mut clear = true;
+        for i in 0..16 {
+            let j = i + k;
+            clear &= !(((self.lefts[i] < self.rights[j]) & (self.lefts[j] < self.rights[i]))
+                & ((self.tops[i] < self.bottoms[j]) & (self.tops[j] < self.bottoms[i])));
+        }
+        clear
+    }
+
+    // Whether no two tiles have a place in common.
+    #[tactic(auto, unfolding(crate::specs::Bounds::clear_all))]
+    fn is_clear(&self) -> bool
+        ensures { result ≡ clear_all (bounds_in self.now) }
+    {
+        let mut clear = true;
+        for k in 0..15 {
+            clear &= self.is_clear_at(k + 1);
+        }
+        clear
+    }
 }
 
-// Whether no two tiles have a place in common.
-fn is_clear(lefts: &[u16], rights: &[u16], tops: &[u16], bottoms: &[u16]) -> bool
-    requires { BoundsRoom lefts.now rights.now tops.now bottoms.now }
-    ensures { result ≡ clear_all (bounds_in lefts.now rights.now tops.now bottoms.now) }
+// Whether each tile of a record keeps every rule that it can break alone.
+fn tiles_ok(p: &Plane) -> bool
+    ensures { result ≡ every 16 (λ i. tile_ok p.now.w p.now.h (tile_at p.now i)) }
 {
-    let mut clear = true;
-    let mut k = 0;
-    while k < 15 {
-        clear = is_clear_at(lefts, rights, tops, bottoms, k + 1) & clear;
-        k += 1;
-    }
-    clear
+    let w = p.w;
+    let h = p.h;
+    p.tiles.iter().all(|t| tile_ok(w, h, *t))
 }
 
-// Whether a lent record keeps every rule. The tiles' bounds go to arrays first, so that sixteen pairs are tested side by side; past the last
-// tile there are bounds of no tile.
-fn plane_ok(p: Plane) -> bool
-    ensures { result ≡ plane_ok p }
+// Whether a lent record keeps every rule.
+fn plane_ok(p: &Plane) -> bool
+    ensures { result ≡ plane_ok p.now }
 {
     if !sides_ok(p.w, p.h) {
         return false;
     }
-    let mut lefts = [0u16; 32];
-    let mut rights = [0u16; 32];
-    let mut tops = [0u16; 32];
-    let mut bottoms = [0u16; 32];
-    let mut i = 0;
-    while i < 16 {
-        let t = p.tiles[i];
-        if !tile_ok(p.w, p.h, t) {
-            return false;
-        }
-        let b = bounds_of(t);
-        lefts[i] = b.left;
-        rights[i] = b.right;
-        tops[i] = b.top;
-        bottoms[i] = b.bottom;
-        i += 1;
+    if !tiles_ok(p) {
+        return false;
     }
-    is_clear(&lefts, &rights, &tops, &bottoms)
+    AllBounds::new(p).is_clear()
 }
 
-// The smallest number that no open tile has, or 16.
-fn first_free(p: Plane) -> usize
-    ensures { result ≡ first_free p }
+// The smallest number that no open tile has.
+fn first_free(p: &Plane) -> Option<usize>
+    ensures value { number_or_16 result ≡ first_free p.now }
+    ensures small { IfSome result (λ n. n < 16) }
 {
-    let mut i = 0;
-    while i < 16 {
-        if p.tiles[i].opened == 0 {
-            return i;
-        }
-        i += 1;
-    }
-    i
-}
-
-fn with_tile(mut p: Plane, n: usize, t: Tile) -> Plane
-    requires { n < 16 }
-    ensures { result ≡ with_tile p n t }
-{
-    p.tiles[n] = t;
-    p
-}
-
-fn with_ticket(t: Tile, ticket: Ticket) -> Tile
-    ensures { result ≡ with_ticket t ticket }
-{
-    let mut next = t;
-    next.ticket = ticket;
-    next
+    p.tiles.iter().position(|t| t.opened == 0)
 }
 
 // Whether tile n is open for a room.
-fn is_open_for(p: Plane, room: u32, n: usize) -> bool
-    ensures { result ≡ open_for p room n }
+#[tactic(auto, unfolding(crate::specs::Plane::open_for))]
+fn is_open_for(p: &Plane, room: u32, n: usize) -> bool
+    ensures { result ≡ open_for p.now room n }
 {
     if 16 <= n {
         return false;
@@ -217,19 +228,74 @@ fn is_open_for(p: Plane, room: u32, n: usize) -> bool
     (t.opened != 0) & (t.room == room)
 }
 
-// The outcome of a call that names a room and a tile: 13 or 14, or the tile's number.
-fn tile_outcome(p: Plane, room: u32, n: usize) -> Outcome
-    ensures { told result ≡ tile_answer p room n }
+// Tile n, which a call names with a room: or 13 or 14. Record, room and number stay three arguments here and below: a struct of them would
+// hold a reference to the record, and be no plainer.
+#[tactic(auto, unfolding(crate::specs::Plane::tile_answer, crate::specs::Plane::open_for, answer::specs::Answer::lowest))]
+fn named(p: &Plane, room: u32, n: usize) -> Result<Tile, Refusal>
+    ensures answer { named_as n result ≡ tile_answer p.now room n }
+    ensures found { IfOk result (λ t. (n < 16) × (t ≡ tile_at p.now n)) }
 {
     let reached = is_open_for(p, room, n);
     let valid = (room < 2) & plane_ok(p);
     if valid & reached {
-        return Outcome::Done(n);
+        return Ok(p.tiles[n]);
     }
     if valid {
-        return Outcome::Refused(Refusal::TileNotOpen);
+        return Err(Refusal::TileNotOpen);
     }
-    Outcome::Refused(Refusal::BadTile)
+    Err(Refusal::BadTile)
+}
+
+impl Plane {
+    #[inline(always)]
+    fn with_tile(&self, n: usize, t: Tile) -> Plane
+        requires { n < 16 }
+        ensures { result ≡ with_tile self.now n t }
+    {
+        let mut next = *self;
+        next.tiles[n] = t;
+        next
+    }
+
+    // What a call gives back: the record with its change, or as lent where the call is refused.
+    #[inline(always)]
+    fn after(mut self, change: Result<Change, Refusal>) -> Planed
+        ensures { planned result ≡ planned_by self change }
+    {
+        let outcome = match change {
+            Ok(c) => {
+                self.tiles[c.n] = c.tile;
+                Ok(c.answer)
+            }
+            Err(why) => Err(why),
+        };
+        Planed {
+            plane: self,
+            outcome,
+        }
+    }
+}
+
+// A batch of a tile's ticket, on its own buffers.
+#[tactic(auto, unfolding(crate::specs::Batch::columns_in))]
+fn columns_of(
+    p: &Plane,
+    room: u32,
+    n: usize,
+    b: Batch,
+    residuals: &[i32],
+    scratch: &mut [i32],
+) -> Result<Change, Refusal>
+    ensures { kept_by p.now result scratch.new ≡ columns_in p.now room n b residuals.now scratch.old }
+{
+    let tile = named(p, room, n)?;
+    let done = tickets::run(tile.ticket, b, residuals, scratch);
+    let answer = done.outcome?;
+    let tile = Tile {
+        ticket: done.ticket,
+        ..tile
+    };
+    Ok(Change { n, tile, answer })
 }
 
 // A column batch of tile n.
@@ -244,25 +310,9 @@ pub fn tile_columns(
 ) -> Planed
     ensures { kept result scratch.new ≡ columns_in plane room n (batch_of false start lines) residuals.now scratch.old }
 {
-    let outcome = tile_outcome(plane, room, n);
-    let Outcome::Done(_) = outcome else {
-        return Planed { plane, outcome };
-    };
-    let t = plane.tiles[n];
-    let ticket = t.ticket;
-    let done = tickets::column_batch(ticket, residuals, scratch, start, lines);
-    let result = done.outcome;
-    let Outcome::Done(_) = result else {
-        return Planed {
-            plane,
-            outcome: result,
-        };
-    };
-    let after = done.ticket;
-    Planed {
-        plane: with_tile(plane, n, with_ticket(t, after)),
-        outcome: result,
-    }
+    let batch = Batch::columns(start, lines);
+    let change = columns_of(&plane, room, n, batch, residuals, scratch);
+    plane.after(change)
 }
 
 // Lines of w numbers into a plane that is width numbers wide: the first to place x, y, each next one a row below.
@@ -278,15 +328,43 @@ fn put_lines(
     requires { (1 ≤ w) × (lines * w ≤ length from.now) × (x + w ≤ width) × ((y + lines) * width ≤ length output.old) }
     ensures { output.new ≡ grid output.old lines w (plane_place width x y) (line_number from.now w) }
 {
-    let mut i: usize = 0;
-    while i < lines {
+    for i in 0..lines {
         let at = (y + i) * width + x;
-        lines::put(w, &from[i * w..], output, at);
-        i += 1;
+        let line = i * w;
+        output[at..at + w].copy_from_slice(&from[line..line + w]);
     }
 }
 
-// A row batch of tile n: a preview of its lines, put in the tile's places.
+// A row batch of a tile: a preview of its lines, put in the tile's places.
+#[tactic(auto, unfolding(crate::specs::Batch::rows_in))]
+fn rows_of(
+    p: &Plane,
+    room: u32,
+    n: usize,
+    start: usize,
+    lines: usize,
+    scratch: &[i32],
+    output: &mut [i32],
+) -> Result<Change, Refusal>
+    ensures { kept_by p.now result output.new ≡ rows_in p.now room n (batch_of true start lines) scratch.now output.old }
+{
+    let tile = named(p, room, n)?;
+    if output.len() < p.w * p.h {
+        return Err(Refusal::ShortBuffer);
+    }
+    let batch = Batch::rows(start, lines);
+    let ticket = tile.ticket;
+    let mut rows = [0i32; 256];
+    let answer = previews::preview(ticket, batch, scratch, output, &mut rows)?;
+    put_lines(&rows, ticket.w, lines, p.w, tile.x, tile.y + start, output);
+    let tile = Tile {
+        ticket: tickets::with_batch(ticket, batch),
+        ..tile
+    };
+    Ok(Change { n, tile, answer })
+}
+
+// A row batch of tile n.
 pub fn tile_rows(
     plane: Plane,
     room: u32,
@@ -298,71 +376,60 @@ pub fn tile_rows(
 ) -> Planed
     ensures { kept result output.new ≡ rows_in plane room n (batch_of true start lines) scratch.now output.old }
 {
-    let outcome = tile_outcome(plane, room, n);
-    let Outcome::Done(_) = outcome else {
-        return Planed { plane, outcome };
-    };
-    if output.len() < plane.w * plane.h {
-        return Planed {
-            plane,
-            outcome: Outcome::Refused(Refusal::ShortBuffer),
-        };
-    }
-    let t = plane.tiles[n];
-    let ticket = t.ticket;
-    let mut rows = [0i32; 256];
-    let result = previews::preview_rows(ticket, scratch, output, &mut rows, start, lines);
-    let Outcome::Done(_) = result else {
-        return Planed {
-            plane,
-            outcome: result,
-        };
-    };
-    put_lines(&rows, ticket.w, lines, plane.w, t.x, t.y + start, output);
-    let after = tickets::with_batch(ticket, true, start, lines);
-    Planed {
-        plane: with_tile(plane, n, with_ticket(t, after)),
-        outcome: result,
-    }
+    let change = rows_of(&plane, room, n, start, lines, scratch, output);
+    plane.after(change)
 }
 
 // Whether a length is below a product, which may be larger than any length.
 fn below_product(n: usize, a: usize, b: usize) -> bool
     ensures { result ≡ ltb n (a * b) }
 {
-    if a == 0 {
-        return false;
+    match a.checked_mul(b) {
+        Some(product) => n < product,
+        None => true,
     }
-    n / a < b
 }
 
-// The outcome of opening t with residuals, a scratch and an output of these lengths: the first number that applies, or the tile's number.
-fn open_outcome(p: Plane, t: Tile, residuals: &[i32], scratch: usize, output: usize) -> Outcome
-    ensures { told result ≡ open_answer p t residuals.now scratch output }
+// The number that t gets in a record: or 13.
+#[tactic(auto, unfolding(crate::specs::Plane::has_place))]
+fn number_for(p: &Plane, t: Tile) -> Result<usize, Refusal>
+    ensures { MatchResult result (λ n. (n < 16) × (n ≡ first_free p.now) × (has_place p.now t ≡ true)) (λ why. (why ≡ BadTile) × (has_place p.now t ≡ false)) }
 {
-    let w = t.ticket.w;
-    let h = t.ticket.h;
-    if !(sizes::is_side(w) & sizes::is_side(h)) {
-        return Outcome::Refused(Refusal::BadSize);
+    let free = first_free(p).ok_or(Refusal::BadTile)?;
+    let next = p.with_tile(free, t);
+    if !plane_ok(&next) {
+        return Err(Refusal::BadTile);
     }
-    if !block::has_kinds(w, h, t.ticket.column_kind, t.ticket.row_kind) {
-        return Outcome::Refused(Refusal::BadKind);
+    Ok(free)
+}
+
+// Opening t with residuals, a scratch and an output of these lengths: or the first number that applies.
+#[tactic(auto, unfolding(crate::specs::Plane::opening, crate::specs::Plane::open_answer, answer::specs::Answer::lowest), using(residual::proofs::Residual::slice_ok))]
+fn opening_of(
+    p: &Plane,
+    t: Tile,
+    residuals: &[i32],
+    scratch: usize,
+    output: usize,
+) -> Result<Change, Refusal>
+    ensures { planned_by p.now result ≡ opening p.now t residuals.now scratch output }
+{
+    let ticket = t.ticket;
+    let size = Size::new(ticket.w, ticket.h)?;
+    let _shape = Shape::new(size, ticket.column_kind, ticket.row_kind)?;
+    let places = size.places();
+    if (residuals.len() < places) | ((scratch < places) | below_product(output, p.w, p.h)) {
+        return Err(Refusal::ShortBuffer);
     }
-    let size = w * h;
-    if (residuals.len() < size) | ((scratch < size) | below_product(output, p.w, p.h)) {
-        return Outcome::Refused(Refusal::ShortBuffer);
+    let n = number_for(p, t)?;
+    if !residual::residuals_ok(&residuals[..places]) {
+        return Err(Refusal::ResidualRange);
     }
-    let free = first_free(p);
-    if 16 <= free {
-        return Outcome::Refused(Refusal::BadTile);
-    }
-    if !plane_ok(with_tile(p, free, t)) {
-        return Outcome::Refused(Refusal::BadTile);
-    }
-    if !residual::residuals_ok(size, residuals) {
-        return Outcome::Refused(Refusal::ResidualRange);
-    }
-    Outcome::Done(free)
+    Ok(Change {
+        n,
+        tile: t,
+        answer: n,
+    })
 }
 
 // The tile that a site asks for, with no marks.
@@ -388,15 +455,9 @@ pub fn open_tile(
 ) -> Planed
     ensures { planned result ≡ opening plane (new_tile site) residuals.now (length scratch.now) (length output.now) }
 {
-    let t = new_tile(site);
-    let outcome = open_outcome(plane, t, residuals, scratch.len(), output.len());
-    let Outcome::Done(n) = outcome else {
-        return Planed { plane, outcome };
-    };
-    Planed {
-        plane: with_tile(plane, n, t),
-        outcome,
-    }
+    let tile = new_tile(site);
+    let change = opening_of(&plane, tile, residuals, scratch.len(), output.len());
+    plane.after(change)
 }
 
 // What a number holds that has no tile: zeros.
@@ -412,44 +473,51 @@ fn no_tile() -> Tile
     }
 }
 
+#[tactic(auto, unfolding(crate::specs::Plane::closing))]
+fn closing_of(p: &Plane, room: u32, n: usize) -> Result<Change, Refusal>
+    ensures { planned_by p.now result ≡ closing p.now room n }
+{
+    named(p, room, n)?;
+    Ok(Change {
+        n,
+        tile: no_tile(),
+        answer: n,
+    })
+}
+
 // Closes tile n, whose number is the answer.
 pub fn close_tile(plane: Plane, room: u32, n: usize) -> Planed
     ensures { planned result ≡ closing plane room n }
 {
-    let outcome = tile_outcome(plane, room, n);
-    let Outcome::Done(_) = outcome else {
-        return Planed { plane, outcome };
-    };
-    Planed {
-        plane: with_tile(plane, n, no_tile()),
-        outcome,
-    }
+    let change = closing_of(&plane, room, n);
+    plane.after(change)
 }
 
 // A record with no tile open.
+#[tactic(auto, unfolding(crate::specs::Plane::made, laws::specs::Store::tab))]
 fn new_plane(w: usize, h: usize) -> Plane
     ensures { result ≡ made w h }
 {
-    let t = no_tile();
     Plane {
         w,
         h,
-        tiles: [t; 16],
+        tiles: [no_tile(); 16],
     }
 }
 
 // Makes a plane of these sides; refused, a record of zeros, which every call refuses.
+#[tactic(auto, unfolding(crate::specs::Plane::making, crate::specs::Plane::make_answer, answer::specs::Answer::lowest))]
 pub fn make_plane(w: usize, h: usize) -> Planed
     ensures { planned result ≡ making w h }
 {
     if !sides_ok(w, h) {
         return Planed {
             plane: new_plane(0, 0),
-            outcome: Outcome::Refused(Refusal::BadSize),
+            outcome: Err(Refusal::BadSize),
         };
     }
     Planed {
         plane: new_plane(w, h),
-        outcome: Outcome::Done(0),
+        outcome: Ok(0),
     }
 }

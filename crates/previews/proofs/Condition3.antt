@@ -6,7 +6,8 @@ use Prim.Native.Nat.{ℕ, zero, suc}
 use lib.IntN.{ℤ}
 use lib.ListN.{length, length-map, get_or-map}
 use Rattle.laws.proofs.Laid.{length_tab, tab_ext}
-use Rattle.tickets.specs.Batch.{Batch, batch_of}
+use Rattle.tickets.specs.Batch.{batch_of}
+use Rattle.tickets.specs.declared.Batch.{Batch}
 use Rattle.tickets.specs.Open.{new_ticket}
 use Rattle.tickets.specs.Run as batches
 use Rattle.tickets.specs.Run.{State, state_at, step}

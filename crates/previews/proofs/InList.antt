@@ -14,7 +14,8 @@ use Rattle.laws.proofs.Bool.{decided}
 use Rattle.laws.proofs.Laid.{laid_ext}
 use Rattle.answer.specs.Answer.{Answer, answers, refuses, after}
 use Rattle.sizes.proofs.Side.{side_bounds}
-use Rattle.tickets.specs.Batch.{Batch, line_count, line_length, out_of_range, answer_unless, lines_of, batch}
+use Rattle.tickets.specs.Batch.{line_count, line_length, out_of_range, answer_unless, lines_of, batch}
+use Rattle.tickets.specs.declared.Batch.{Batch}
 use Rattle.tickets.specs.Run.{State}
 use Rattle.tickets.specs.Condition3.{answer_to, covered_with, ticket_of, held, number_at, state_of}
 use Rattle.tickets.specs.declared.Ticket.{Ticket}
@@ -26,7 +27,7 @@ use Rattle.tickets.proofs.Step.{answer_is, own, long_scratch, long_output, colum
 use Rattle.previews.specs.Preview.{is_short, lines_shown, Preview, preview_of}
 use Rattle.previews.specs.Calls.{preview_at}
 use Rattle.previews.specs.Condition3.{answer_to_preview, with_lines_of}
-use Rattle.previews.proofs.Preview.{ran, preview_same}
+use Rattle.previews.proofs.Shown.{ran, preview_same}
 
 module _ (w h ck rk : ℕ) (residuals scratch output : List ℤ) (o : Opened w h ck rk residuals (length scratch) (length output))
     {done : Bool → ℕ → Bool} (reached : Reached w h done) (b : Batch) (room : List ℤ) where

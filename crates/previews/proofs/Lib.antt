@@ -2,4 +2,4 @@ pub mod Condition3
 pub mod Examples
 pub mod InList
 pub mod OnCopies
-pub mod Preview
+pub mod Shown

@@ -10,11 +10,12 @@ use lib.IntN.{ℤ, pos}
 use lib.ListN.{length, get_or}
 use Rattle.laws.proofs.Laid.{length_laid, laid_at, laid_after}
 use Rattle.answer.specs.Answer.{Answer, answers, refuses, lowest, after}
-use Rattle.tickets.specs.Batch.{Batch, line_length, answer_unless, batch}
+use Rattle.tickets.specs.Batch.{line_length, answer_unless, batch}
+use Rattle.tickets.specs.declared.Batch.{Batch}
 use Rattle.tickets.specs.declared.Ticket.{Ticket}
 use Rattle.previews.specs.Preview.{is_short, preview_answer, lines_shown, preview_of}
 use Rattle.previews.specs.OnCopies.{BesideBatch, OnCopies, short_too}
-use Rattle.previews.proofs.Preview.{accepted}
+use Rattle.previews.proofs.Shown.{accepted}
 
 -- the five tests of a batch, with a buffer more that is short
 short_too_lem : (a b c d e : Bool) (n : ℕ)

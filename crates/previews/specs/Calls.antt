@@ -2,7 +2,8 @@
 use Rattle.std.specs.Prelude.{false, cond, List, [], ℕ, zero, suc, ℤ, length, get_or}
 use Rattle.laws.specs.Store.{tab}
 use Rattle.answer.specs.Answer.{Answer}
-use Rattle.tickets.specs.Batch.{Batch, batch_of}
+use Rattle.tickets.specs.Batch.{batch_of}
+use Rattle.tickets.specs.declared.Batch.{Batch}
 use Rattle.tickets.specs.Run.{State, Step, step}
 use Rattle.tickets.specs.declared.Ticket.{Ticket}
 use Rattle.previews.specs.Preview.{Preview, preview_of}

@@ -3,7 +3,8 @@
 use Rattle.std.specs.Prelude.{◌≡◌, Bool, false, cond, List, [], map, ℕ, zero, suc, ◌+◌, ◌*◌, ◌/◌, ◌%◌, ℤ, length}
 use Rattle.laws.specs.Store.{tab, laid}
 use Rattle.answer.specs.Answer.{Answer, answers, refuses, after}
-use Rattle.tickets.specs.Batch.{Batch, line_length}
+use Rattle.tickets.specs.Batch.{line_length}
+use Rattle.tickets.specs.declared.Batch.{Batch}
 use Rattle.tickets.specs.Open.{open_answer, new_ticket}
 use Rattle.tickets.specs.Run as batches
 use Rattle.tickets.specs.Run.{State, state_at}

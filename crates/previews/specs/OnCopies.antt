@@ -2,7 +2,8 @@
 -- its batch, place by place.
 use Rattle.std.specs.Prelude.{◌≡◌, true, false, List, ℕ, ◌+◌, ◌*◌, ◌≤◌, ◌<◌, min, ℤ, pos, length, get_or}
 use Rattle.answer.specs.Answer.{Answer, answers, refuses}
-use Rattle.tickets.specs.Batch.{Batch, line_length, batch}
+use Rattle.tickets.specs.Batch.{line_length, batch}
+use Rattle.tickets.specs.declared.Batch.{Batch}
 use Rattle.tickets.specs.declared.Ticket.{Ticket}
 use Rattle.previews.specs.Preview.{is_short, preview_of}
 

@@ -3,8 +3,9 @@
 use Rattle.std.specs.Prelude.{Bool, ◌&&◌, List, ℕ, ◌+◌, ◌*◌, ltb, ℤ, pos, length, get_or}
 use Rattle.laws.specs.Store.{laid}
 use Rattle.answer.specs.Answer.{Answer, after, told}
-use Rattle.answer.specs.declared.Outcome.{Outcome}
-use Rattle.tickets.specs.Batch.{Batch, is_count, line_length, answer_unless, batch}
+use Rattle.answer.specs.Answer.{Outcome}
+use Rattle.tickets.specs.Batch.{is_count, line_length, answer_unless, batch}
+use Rattle.tickets.specs.declared.Batch.{Batch}
 use Rattle.tickets.specs.declared.Ticket.{Ticket}
 
 -- "Number 3 also when the preview buffer is short, judged only for 1, 4 or 8 lines": a buffer of length room for lines of n numbers

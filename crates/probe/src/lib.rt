@@ -4,72 +4,75 @@
 ghost use Rattle.std.specs.Prelude.{◌≡◌, length};
 ghost use Rattle.kernels.specs.Adst.{adst16, adst4, adst8};
 ghost use Rattle.kernels.specs.Dct.{dct32, dct_rows};
-ghost use Rattle.answer.specs.Answer.{signed_of};
+ghost use Rattle.answer.specs.Answer.{signed_of, told};
 ghost use Rattle.passes.specs.Answer.{pass_answer, pass_after};
 ghost use Rattle.probe.specs.Lanes.{lanes_answer, lanes_after};
 ghost use Rattle.probe.specs.Shifts.{shift_pair};
 
 use answer::{Outcome, Refusal};
+use lines::Source;
+use sizes::Size;
 
 #[unsafe(no_mangle)]
 pub extern "C" fn probe_dct32(table: &mut [i8; 1024])
     ensures { table.new ≡ dct32 }
 {
-    *table = kernels::dct32();
+    *table = *kernels::dct32();
 }
 
 #[unsafe(no_mangle)]
 pub extern "C" fn probe_dct16(table: &mut [i8; 256])
     ensures { table.new ≡ dct_rows 16 16 }
 {
-    *table = kernels::dct16();
+    *table = *kernels::dct16();
 }
 
 #[unsafe(no_mangle)]
 pub extern "C" fn probe_dct8(table: &mut [i8; 64])
     ensures { table.new ≡ dct_rows 8 8 }
 {
-    *table = kernels::dct8();
+    *table = *kernels::dct8();
 }
 
 #[unsafe(no_mangle)]
 pub extern "C" fn probe_dct4(table: &mut [i8; 16])
     ensures { table.new ≡ dct_rows 4 4 }
 {
-    *table = kernels::dct4();
+    *table = *kernels::dct4();
 }
 
 #[unsafe(no_mangle)]
 pub extern "C" fn probe_adst16(table: &mut [i8; 256])
     ensures { table.new ≡ adst16 }
 {
-    *table = kernels::adst16();
+    *table = *kernels::adst16();
 }
 
 #[unsafe(no_mangle)]
 pub extern "C" fn probe_adst8(table: &mut [i8; 64])
     ensures { table.new ≡ adst8 }
 {
-    *table = kernels::adst8();
+    *table = *kernels::adst8();
 }
 
 #[unsafe(no_mangle)]
 pub extern "C" fn probe_adst4(table: &mut [i8; 16])
     ensures { table.new ≡ adst4 }
 {
-    *table = kernels::adst4();
+    *table = *kernels::adst4();
 }
 
 // The first shift times 16 plus the second; 0 for a size that there isn't.
 #[unsafe(no_mangle)]
+#[tactic(auto, unfolding(crate::specs::Shifts::shift_pair))]
 pub extern "C" fn probe_shifts(w: usize, h: usize) -> u32
     ensures { result ≡ shift_pair w h }
 {
-    if !(sizes::is_side(w) & sizes::is_side(h)) {
+    let Ok(size) = Size::new(w, h) else {
         return 0;
-    }
-    let shifts = sizes::fwd_shifts(w, h);
-    shifts.first * 16 + shifts.second
+    };
+    let shifts = size.shifts();
+    shifts.first.bits * 16 + shifts.second.bits
 }
 
 // The plain pass.
@@ -103,13 +106,31 @@ pub extern "C" fn probe_lanes(
     ensures value { result ≡ signed_of (lanes_answer side kind shift line start lines (length src.now) (length dst.old)) }
     ensures dst_after { dst.new ≡ lanes_after side kind shift line start lines src.now dst.old }
 {
-    let answer = passes::admit(side, kind, shift, line, src.len(), dst.len());
-    let Outcome::Done(_) = answer else {
-        return answer::signed(answer);
-    };
+    answer::signed(run_lanes(side, kind, shift, line, start, lines, src, dst))
+}
+
+fn run_lanes(
+    side: usize,
+    kind: u32,
+    shift: i32,
+    line: usize,
+    start: usize,
+    lines: usize,
+    src: &[i32],
+    dst: &mut [i32],
+) -> Outcome
+    ensures result_value { told result ≡ lanes_answer side kind shift line start lines (length src.now) (length dst.old) }
+    ensures dst_after { dst.new ≡ lanes_after side kind shift line start lines src.now dst.old }
+{
+    let pass = passes::admit(side, kind, shift, line, src.len(), dst.len())?;
     if lines::ends_past(line, start, lines) {
-        return answer::signed(Outcome::Refused(Refusal::BatchRange));
+        return Err(Refusal::BatchRange);
     }
-    lanes::run(side, kind, shift as u32, line, start, lines, src, dst);
-    answer::signed(Outcome::Done(lines))
+    let source = Source {
+        numbers: src,
+        lines: line,
+        shift: pass.shift,
+    };
+    lanes::run(side, pass.kind, &source, start, lines, dst);
+    Ok(lines)
 }

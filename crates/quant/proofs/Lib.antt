@@ -4,11 +4,12 @@ pub mod Cut
 pub mod Examples
 pub mod Finite
 pub mod Pattern
+pub mod Places
 pub mod Ranges
-pub mod Reading
 pub mod Rounding
 pub mod Scanned
 pub mod Shifted
 pub mod Small
+pub mod Whole
 pub mod Written
 pub mod Zero

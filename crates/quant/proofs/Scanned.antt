@@ -1,24 +1,25 @@
 -- What a call over a scan answers and writes, from what its parts tell. Assumes nothing.
 use mathlib.Core.Path.{◌≡◌, sym, ap, ◌∙◌, subst}
-use mathlib.Core.Bool.{Bool, true, false, not, cond, ◌||◌}
-use mathlib.Core.List.{List, []}
+use mathlib.Core.Bool.{Bool, true, false, not, ◌||◌}
+use mathlib.Core.List.{List}
 use Prim.Native.Nat.{ℕ, ◌≤◌, ◌<◌}
+use native.Mathlib.Omega.{arith}
 use borrow.Author.Tests.{ltb-false, not-false}
 use lib.Dec.{T, ltb}
 use lib.IntN.{ℤ, pos}
 use lib.Ieee.{Float}
 use lib.Ieee.Bits.{is_true}
 use lib.ListN.{length, get_or}
-use Rattle.answer.specs.Answer.{Answer, answers, refuses, lowest, after}
-use Rattle.answer.proofs.Answer.{passed, written}
+use Rattle.answer.specs.Answer.{Answer, answers, refuses, lowest}
+use Rattle.answer.proofs.Answer.{passed}
 use Rattle.answer.proofs.More.{refused_more, passed_on}
 use Rattle.laws.specs.Store.{laid}
 use Rattle.laws.specs.Table.{every}
 use Rattle.laws.proofs.Table.{every_at}
 use Rattle.laws.proofs.Bool.{neither}
-use Rattle.laws.proofs.Laid.{laid_ext}
+use Rattle.laws.proofs.Laid.{laid_ext, length_laid}
 use Rattle.sizes.specs.Size.{is_side}
-use Rattle.quant.specs.Scan.{named_at, is_lost, is_dense, by_card, by_scan, scan_answer, scanned}
+use Rattle.quant.specs.Scan.{named_at, is_lost, is_dense, by_card, by_scan, named_answer, scan_answer, scanned}
 use Rattle.quant.specs.Settings.{settings_ok, coefficient_ok}
 use Rattle.quant.specs.declared.Settings.{Settings}
 use Rattle.laws.proofs.Filled.{front_at}
@@ -65,10 +66,6 @@ module _ (k : Call) where
   abbrev pub answer : Answer
   answer = scan_answer k.width k.step k.settings k.coefficients k.scan k.levels k.magnitudes
 
-  pub card_refuses : (r : ℕ) → refuses r ≡ by_the_card → refuses r ≡ answer
-  unfolding scan_answer
-  card_refuses r e = refused_more tests more n r e
-
   from_tests : not (is_side k.width) ≡ false → (ltb k.levels n || ltb k.magnitudes n) ≡ false → not (settings_ok k.settings k.step) ≡ false → Card k
   from_tests a b c =
       let short = neither (ltb k.levels n) (ltb k.magnitudes n) b in
@@ -82,26 +79,10 @@ module _ (k : Call) where
         let c = passed (not (settings_ok k.settings k.step)) 7 _ n m b.1 in
         from_tests a.0 b.0 c.0
 
-    -- such a call answers the scan's length
-    pub card_answers : answers n ≡ by_the_card
-    unfolding lowest
-    card_answers = sym (passed_on tests [] n m ok)
-
-    rest : answer ≡ lowest more n
-    unfolding scan_answer
-    rest = passed_on tests more n m ok
-
-    pub scan_lost : lost ≡ true → refuses 8 ≡ answer
-    unfolding lowest
-    scan_lost e = sym (rest ∙ rw e)
-
-    pub scan_dense : lost ≡ false → dense ≡ true → refuses 9 ≡ answer
-    unfolding lowest
-    scan_dense e f = sym (rest ∙ rw (e, f))
-
-    pub scan_done : lost ≡ false → dense ≡ false → answers m ≡ answer
-    unfolding lowest
-    scan_done e f = ok ∙ passed_on tests [] n m ok ∙ sym (rest ∙ rw (e, f))
+    -- such a call answers by its scan
+    pub by_its_scan : named_answer k.width k.coefficients k.scan ≡ answer
+    unfolding scan_answer named_answer
+    by_its_scan = sym (passed_on tests more n m ok)
 
   -- an accepted call: its settings are in range, and so is each coefficient that its scan names
   pub record Accepted : Type 0 where
@@ -124,27 +105,55 @@ module _ (k : Call) where
         in_scan = λ i h. is_true _ (every_at n in_range (subst T (sym (not-false (every n in_range) g.0)) tt) i h);
       }
 
-  -- ---- the coefficients that the scan names, laid side by side over zeros
+-- what numbers 1, 3 and 7 refuse is refused
+pub card_refuses : (r width step : ℕ) (settings : Settings) (coefficients : List ℤ) (scan : List ℕ) (levels magnitudes : ℕ)
+    → refuses r ≡ lowest (by_card width step settings (length scan) levels magnitudes) (length scan)
+    → refuses r ≡ scan_answer width step settings coefficients scan levels magnitudes
+unfolding scan_answer
+card_refuses r width step settings coefficients scan levels magnitudes e = refused_more _ _ (length scan) r e
 
-  abbrev pub named_over : List ℤ → List ℤ
-  named_over zeros = laid zeros 0 n (named_at k.width k.coefficients k.scan)
+-- ---- a call past those tests: the coefficients that its scan names are laid side by side
 
-  -- what `name_coefficients` leaves where it found every place
-  pub named_is : (found : Bool) (zeros named : List ℤ) → named ≡ cond found (named_over zeros) zeros → found ≡ true → named ≡ named_over zeros
-  named_is found zeros named e f = e ∙ ap (λ (t : Bool). cond t (named_over zeros) zeros) f
+module _ (width : ℕ) (coefficients : List ℤ) (scan : List ℕ) where
+  abbrev count : ℕ
+  count = length scan
 
-  module _ (zeros named : List ℤ) (room : n ≤ length zeros) (is : named ≡ named_over zeros) where
-    at : (i : ℕ) → i < n → get_or named i (pos 0) ≡ named_at k.width k.coefficients k.scan i
-    at i h = ap (λ (l : List ℤ). get_or l i (pos 0)) is ∙ front_at zeros n (named_at k.width k.coefficients k.scan) (pos 0) room i h
+  abbrev is_out : Bool
+  is_out = is_lost width (length coefficients) scan
 
-    pub dense_is : not (every n (λ i. coefficient_ok (get_or named i (pos 0)))) ≡ dense
+  abbrev found : Answer
+  found = named_answer width coefficients scan
+
+  pub found_lost : is_out ≡ true → refuses 8 ≡ found
+  unfolding named_answer lowest
+  found_lost e = rw e
+
+  pub found_dense : is_out ≡ false → is_dense width coefficients scan ≡ true → refuses 9 ≡ found
+  unfolding named_answer lowest
+  found_dense e f = rw (e, f)
+
+  pub found_all : is_out ≡ false → is_dense width coefficients scan ≡ false → answers count ≡ found
+  unfolding named_answer lowest
+  found_all e f = rw (e, f)
+
+  module _ (old named : List ℤ) (room : length old ≡ count) (is : named ≡ laid old 0 count (named_at width coefficients scan)) where
+    pub named_length : length named ≡ count
+    named_length = ap length is ∙ length_laid old 0 count (named_at width coefficients scan) (omega arith) ∙ room
+
+    at : (i : ℕ) → i < count → get_or named i (pos 0) ≡ named_at width coefficients scan i
+    at i h = ap (λ (l : List ℤ). get_or l i (pos 0)) is ∙ front_at old count (named_at width coefficients scan) (pos 0) (omega arith) i h
+
+    -- whether each is in range
+    pub dense_is : not (every (length named) (λ i. coefficient_ok (get_or named i (pos 0)))) ≡ is_dense width coefficients scan
     unfolding is_dense
-    dense_is = ap not (every_same n _ _ (λ i h. ap coefficient_ok (at i h)))
+    dense_is =
+        ap (λ (m : ℕ). not (every m (λ i. coefficient_ok (get_or named i (pos 0))))) named_length
+        ∙ ap not (every_same count _ _ (λ i h. ap coefficient_ok (at i h)))
 
-    -- a buffer that is written by the numbers of the named coefficients, of an accepted call
-    pub written_is : (m : ℕ) (buffer after_call : List Float) (by of : ℤ → Float) → answers m ≡ answer → ((c : ℤ) → by c ≡ of c)
-        → after_call ≡ laid buffer 0 n (λ i. by (get_or named i (pos 0)))
-        → after_call ≡ after answer (scanned of k.width k.coefficients k.scan buffer) buffer
+    -- a buffer that is written by a number of each
+    pub written_is : (buffer after_call : List Float) (of : ℤ → Float) → after_call ≡ laid buffer 0 (length named) (λ i. of (get_or named i (pos 0)))
+        → after_call ≡ scanned of width coefficients scan buffer
     unfolding scanned
-    written_is m buffer after_call by of a e f =
-        written buffer a (f ∙ laid_ext buffer 0 n (λ i. by (get_or named i (pos 0))) (λ i. of (named_at k.width k.coefficients k.scan i)) (λ i h. e (get_or named i (pos 0)) ∙ ap of (at i h)))
+    written_is buffer after_call of e =
+        e ∙ ap (λ (m : ℕ). laid buffer 0 m (λ i. of (get_or named i (pos 0)))) named_length
+        ∙ laid_ext buffer 0 count (λ i. of (get_or named i (pos 0))) (λ i. of (named_at width coefficients scan i)) (λ i h. ap of (at i h))

@@ -1,14 +1,18 @@
 -- What is written for a product p, from what the functions on it give. Assumes nothing.
-use mathlib.Core.Path.{◌≡◌, sym, ap, ◌∙◌}
-use mathlib.Core.Bool.{Bool, true, false, cond}
+use mathlib.Core.Path.{◌≡◌, refl, sym, ap, ◌∙◌}
+use mathlib.Core.Bool.{Bool, true, false, not, cond}
 use Prim.Native.Nat.{ℕ}
 use lib.Dec.{T}
 use lib.IntN.{ℤ}
-use lib.Ieee.{Float, nan, inf, fin, binary32, add, mul, le, lt}
-use Rattle.quant.specs.Float.{zero32, abs_of, sign_of, max0_of, plain, round_of}
-use Rattle.quant.specs.Level.{inverse_of, bias_of, product_of, whole_of, level_of, magnitude_at, level_at}
+use lib.Ieee.{Float, nan, inf, fin, neg, binary32, add, mul, le, lt, is_nan}
+use lib.Ieee.Scale.{finite}
+use Rattle.std.specs.Float.{float_with_sign, is_sign_negative}
+use Rattle.quant.specs.Float.{zero32, one32, abs_of, sign_of, max0_of, plain, round_of}
+use Rattle.quant.specs.Level.{product_of, whole_of, level_of, magnitude_at, level_at, IsScale, magnitude_by, level_by}
+use Rattle.quant.specs.Settings.{coefficient_ok}
+use Rattle.quant.proofs.Ranges.{coefficient_size, in_float_lem}
+use Rattle.quant.proofs.Small.{int_finite, product_number}
 use Rattle.quant.specs.declared.Settings.{Settings}
-use Rattle.quant.specs.declared.level.Scale.{Scale}
 
 pub max0_plain : (y : Float) → T (plain (max0_of y))
 unfolding max0_of lt
@@ -36,12 +40,36 @@ module _ (threshold bias p a : Float) (is : a ≡ abs_of p) where
       let short : le threshold (abs_of p) ≡ false = cc in
       sym (ap (λ (b : Bool). cond b (whole_of bias p) zero32) short)
 
--- what is written with a scale made of settings and step
-module _ (s : Settings) (step : ℕ) (scale : Scale) (is : (scale.inverse ≡ inverse_of s step) × (scale.threshold ≡ s.threshold) × (scale.bias ≡ bias_of s)) (c : ℤ) where
-  pub scaled_level : level_of scale.threshold scale.bias (product_of scale.inverse c) ≡ level_at s step c
+-- 1 with p's sign
+pub one_signed : (p : Float) → T (not (is_nan p)) → float_with_sign (is_sign_negative p) one32 ≡ sign_of p
+unfolding is_nan float_with_sign is_sign_negative
+one_signed nan n = absurd n
+one_signed (inf s) n = refl
+one_signed (fin s m e) n = refl
+
+-- x without its sign, by the sign's bit
+pub turned : (x : Float) → is_sign_negative x ≡ true → neg x ≡ abs_of x
+unfolding neg is_sign_negative
+turned nan e = refl
+turned (inf s) e = ap (λ (t : Bool). inf (not t)) e
+turned (fin s m k) e = ap (λ (t : Bool). fin (not t) m k) e
+
+pub unturned : (x : Float) → is_sign_negative x ≡ false → x ≡ abs_of x
+unfolding is_sign_negative
+unturned nan e = refl
+unturned (inf s) e = ap inf e
+unturned (fin s m k) e = ap (λ (t : Bool). fin t m k) e
+
+-- the product of a coefficient in range and a finite number is no NaN
+pub accepted_number : (inverse : Float) (c : ℤ) → T (finite inverse) → coefficient_ok c ≡ true → T (not (is_nan (product_of inverse c)))
+accepted_number inverse c f ok = product_number _ inverse (int_finite c (in_float_lem c (coefficient_size c ok))) f
+
+-- what is written by what settings and step come to
+module _ (s : Settings) (step : ℕ) (inverse threshold bias : Float) (is : IsScale s step inverse threshold bias) (c : ℤ) where
+  pub scaled_level : level_by inverse threshold bias c ≡ level_at s step c
   unfolding level_at
   scaled_level = rw (is.0, is.1, is.2)
 
-  pub scaled_magnitude : abs_of (product_of scale.inverse c) ≡ magnitude_at s step c
+  pub scaled_magnitude : magnitude_by inverse c ≡ magnitude_at s step c
   unfolding magnitude_at
   scaled_magnitude = rw is.0

@@ -1,5 +1,5 @@
 -- The level and the magnitude of a coefficient ("Levels"). Each f32 operation is rounded once, in document 01's order.
-use Rattle.std.specs.Prelude.{cond, ℕ, ℤ, pos, Float}
+use Rattle.std.specs.Prelude.{◌≡◌, cond, ℕ, ℤ, pos, Float}
 use Rattle.std.specs.Float.{binary32}
 use Rattle.std.specs.Float.Ieee.{add, sub, mul, div, le, of_int}
 use Rattle.quant.specs.Float.{zero32, half32, abs_of, sign_of, max0_of, round_of}
@@ -33,3 +33,15 @@ magnitude_at s step c = abs_of (product_of (inverse_of s step) c)
 
 unfoldable pub level_at : Settings → ℕ → ℤ → Float
 level_at s step c = level_of s.threshold (bias_of s) (product_of (inverse_of s step) c)
+
+-- ---- the same by what settings and step come to
+
+-- what they come to
+abbrev pub IsScale : Settings → ℕ → Float → Float → Float → Type 0
+IsScale s step inverse threshold bias = (inverse ≡ inverse_of s step) × (threshold ≡ s.threshold) × (bias ≡ bias_of s)
+
+abbrev pub magnitude_by : Float → ℤ → Float
+magnitude_by inverse c = abs_of (product_of inverse c)
+
+abbrev pub level_by : Float → Float → Float → ℤ → Float
+level_by inverse threshold bias c = level_of threshold bias (product_of inverse c)

@@ -1,13 +1,13 @@
 -- The answer for one place ("One place also has a call of its own").
-use Rattle.std.specs.Prelude.{Bool, cond, not, [], ◌∷◌, ℕ, ℤ, Float}
+use Rattle.std.specs.Prelude.{Bool, cond, not, [], ◌∷◌, ℕ, ℤ, Float, Result, Ok, Err}
 use Rattle.std.specs.Float.Ieee.{le}
 use Rattle.answer.specs.Answer.{Answer, answers, refuses, number_of, lowest}
 use Rattle.quant.specs.Level.{level_at, magnitude_at}
 use Rattle.quant.specs.Settings.{settings_ok, coefficient_ok}
 use Rattle.quant.specs.declared.Settings.{Settings}
+use Rattle.answer.specs.declared.Refusal.{Refusal}
+use Rattle.quant.specs.declared.Place.{Place}
 use Rattle.quant.specs.declared.Place.TheVariants.{Dropped, Kept}
-use Rattle.quant.specs.declared.Quantized.{Quantized}
-use Rattle.quant.specs.declared.Quantized.TheVariants.{Refused, At}
 
 -- "each coefficient is either dropped with its magnitude or kept with level and magnitude", or the call is refused by its number
 pub data Said : Type 0 where
@@ -16,10 +16,10 @@ pub data Said : Type 0 where
   kept : Float → Float → Said
 
 -- what an answer of the call says
-abbrev pub said : Quantized → Said
-said (Refused r) = refused (number_of r)
-said (At (Dropped magnitude)) = dropped magnitude
-said (At (Kept level magnitude)) = kept level magnitude
+abbrev pub said : Result Place Refusal → Said
+said (Err r) = refused (number_of r)
+said (Ok (Dropped magnitude)) = dropped magnitude
+said (Ok (Kept level magnitude)) = kept level magnitude
 
 -- "It is kept when the magnitude reaches the threshold."
 abbrev pub is_kept : Settings → ℕ → ℤ → Bool

@@ -40,6 +40,10 @@ by_card width step settings n levels magnitudes =
 abbrev pub by_scan : ℕ → List ℤ → List ℕ → List (Bool × ℕ)
 by_scan width coefficients scan = (is_lost width (length coefficients) scan, 8) ∷ (is_dense width coefficients scan, 9) ∷ []
 
+-- the answer of a call that numbers 1, 3 and 7 don't refuse
+unfoldable pub named_answer : ℕ → List ℤ → List ℕ → Answer
+named_answer width coefficients scan = lowest (by_scan width coefficients scan) (length scan)
+
 -- "answers the scan length; an empty scan answers 0"
 unfoldable pub scan_answer : ℕ → ℕ → Settings → List ℤ → List ℕ → ℕ → ℕ → Answer
 scan_answer width step settings coefficients scan levels magnitudes =

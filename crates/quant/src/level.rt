@@ -1,18 +1,17 @@
 // The level and the magnitude of a coefficient.
-ghost use Rattle.std.specs.Prelude.{◌≡◌, T, pos};
-ghost use Rattle.std.specs.Float.Ieee.{in_float};
-ghost use Rattle.std.specs.Float.{binary32};
+ghost use Rattle.std.specs.Prelude.{◌≡◌, true, false, T, pos, length, get_or, MatchResult};
 ghost use Rattle.std.specs.Float.Ieee.Scale.{finite};
-ghost use Rattle.quant.specs.Float.{abs_of};
+ghost use Rattle.answer.specs.declared.Refusal.TheVariants.{BadSetting};
+ghost use Rattle.laws.specs.Table.{every};
 ghost use Rattle.quant.specs.Settings.{settings_ok, coefficient_ok};
-ghost use Rattle.quant.specs.Level.{inverse_of, bias_of, product_of, level_of};
+ghost use Rattle.quant.specs.Level.{IsScale, level_by, magnitude_by};
 ghost use Rattle.quant.specs.Place.{said, one_answer};
 
-use super::{Place, Quantized, Settings, float};
+use super::{Place, Settings, float};
 use answer::Refusal;
 
 // Whether each setting and the step are in range.
-pub(crate) fn settings_ok(settings: Settings, step: u32) -> bool
+fn settings_ok(settings: Settings, step: u32) -> bool
     ensures { result ≡ settings_ok settings step }
 {
     ((1 <= step) & (step <= 1048576))
@@ -21,30 +20,31 @@ pub(crate) fn settings_ok(settings: Settings, step: u32) -> bool
         & ((0.0 <= settings.dead_zone) & (settings.dead_zone <= 0.5))
 }
 
-// Whether a coefficient is in range.
-pub(crate) fn coefficient_ok(coefficient: i32) -> bool
+// Coefficients lie from -LIMIT to LIMIT.
+const LIMIT: u32 = 1048576;
+
+#[tactic(auto, unfolding(crate::specs::Settings::coefficient_ok, fixed::specs::Limit::is_within))]
+fn coefficient_ok(coefficient: i32) -> bool
     ensures { result ≡ coefficient_ok coefficient }
 {
-    (-1048576 <= coefficient) & (coefficient <= 1048576)
+    fixed::is_within(LIMIT, coefficient)
 }
 
-// What settings and step come to, once for all coefficients.
+// Whether each coefficient is in range.
+#[tactic(auto, unfolding(crate::specs::Settings::coefficient_ok, fixed::specs::Limit::all_within, fixed::specs::Limit::is_within))]
+pub(crate) fn coefficients_ok(coefficients: &[i32]) -> bool
+    ensures { result ≡ every (length coefficients.now) (λ i. coefficient_ok (get_or coefficients.now i (pos 0))) }
+{
+    fixed::all_within(LIMIT, coefficients)
+}
+
+// What settings and a step come to that are in range, once for all coefficients.
 #[derive(Clone, Copy)]
 pub(crate) struct Scale {
     pub(crate) inverse: f32,
     pub(crate) threshold: f32,
     pub(crate) bias: f32,
-}
-
-pub(crate) fn scale_of(settings: Settings, step: u32) -> Scale
-    requires { T (in_float binary32 (pos step)) }
-    ensures { (result.inverse ≡ inverse_of settings step) × (result.threshold ≡ settings.threshold) × (result.bias ≡ bias_of settings) }
-{
-    Scale {
-        inverse: settings.factor / (step as f32),
-        threshold: settings.threshold,
-        bias: settings.dead_zone - 0.5,
-    }
+    ghost inverse_finite: { T (finite inverse) },
 }
 
 // What is written for a coefficient.
@@ -54,39 +54,52 @@ pub(crate) struct Written {
     pub(crate) magnitude: f32,
 }
 
-pub(crate) fn quantize(scale: Scale, coefficient: i32) -> Written
-    requires coefficient_exact { T (in_float binary32 coefficient) }
-    requires inverse_finite { T (finite scale.inverse) }
-    ensures { (result.level ≡ level_of scale.threshold scale.bias (product_of scale.inverse coefficient)) × (result.magnitude ≡ abs_of (product_of scale.inverse coefficient)) }
-{
-    let product = coefficient as f32 * scale.inverse;
-    let magnitude = float::abs(product);
-    if magnitude >= scale.threshold {
-        let whole = float::round_half_up(float::max0(magnitude + scale.bias));
-        return Written {
-            level: float::sign(product) * whole,
-            magnitude: magnitude,
-        };
+impl Scale {
+    // Number 7's rule.
+    pub(crate) fn new(settings: Settings, step: u32) -> Result<Scale, Refusal>
+        ensures { MatchResult result (λ s. IsScale settings step s.inverse s.threshold s.bias × (settings_ok settings step ≡ true)) (λ why. (why ≡ BadSetting) × (settings_ok settings step ≡ false)) }
+    {
+        if !settings_ok(settings, step) {
+            return Err(Refusal::BadSetting);
+        }
+        Ok(Scale {
+            inverse: settings.factor / (step as f32),
+            threshold: settings.threshold,
+            bias: settings.dead_zone - 0.5,
+        })
     }
-    Written {
-        level: 0.0,
-        magnitude: magnitude,
+
+    #[inline(always)]
+    pub(crate) fn quantize(self, coefficient: i32) -> Written
+        requires { coefficient_ok coefficient ≡ true }
+        ensures { (result.level ≡ level_by self.inverse self.threshold self.bias coefficient) × (result.magnitude ≡ magnitude_by self.inverse coefficient) }
+    {
+        let product = coefficient as f32 * self.inverse;
+        let magnitude = float::abs(product);
+        if magnitude >= self.threshold {
+            let whole = float::round_half_up(float::max0(magnitude + self.bias));
+            let level = 1.0f32.copysign(product) * whole;
+            return Written { level, magnitude };
+        }
+        Written {
+            level: 0.0,
+            magnitude,
+        }
     }
 }
 
 // One place by itself: 7 where a setting is out of range, then 9 where the coefficient is.
-pub fn quantize_one(settings: Settings, step: u32, coefficient: i32) -> Quantized
+#[tactic(auto, unfolding(crate::specs::Place::one_answer, crate::specs::Place::place_of, answer::specs::Answer::lowest))]
+pub fn quantize_one(settings: Settings, step: u32, coefficient: i32) -> Result<Place, Refusal>
     ensures { said result ≡ one_answer settings step coefficient }
 {
-    if !settings_ok(settings, step) {
-        return Quantized::Refused(Refusal::BadSetting);
-    }
+    let scale = Scale::new(settings, step)?;
     if !coefficient_ok(coefficient) {
-        return Quantized::Refused(Refusal::CoefficientRange);
+        return Err(Refusal::CoefficientRange);
     }
-    let w = quantize(scale_of(settings, step), coefficient);
-    if w.magnitude >= settings.threshold {
-        return Quantized::At(Place::Kept(w.level, w.magnitude));
+    let written = scale.quantize(coefficient);
+    if written.magnitude >= settings.threshold {
+        return Ok(Place::Kept(written.level, written.magnitude));
     }
-    Quantized::At(Place::Dropped(w.magnitude))
+    Ok(Place::Dropped(written.magnitude))
 }

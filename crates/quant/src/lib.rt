@@ -1,10 +1,9 @@
 // Quantizing: the step of an index, and the levels of coefficients.
 #![tactic(auto)]
 
-use answer::Refusal;
-
 mod float;
 mod level;
+mod reading;
 mod scan;
 mod step;
 
@@ -25,11 +24,4 @@ pub struct Settings {
 pub enum Place {
     Dropped(f32),
     Kept(f32, f32),
-}
-
-// The answer for one place.
-#[derive(Drop)]
-pub enum Quantized {
-    Refused(Refusal),
-    At(Place),
 }

@@ -10,7 +10,7 @@ use lib.Seq.{append_snoc, drop-drop}
 use Rattle.laws.proofs.Laid.{length_tab}
 use Rattle.laws.proofs.Place.{split}
 use Rattle.laws.proofs.Sum.{sum_of_append, sum_of_more}
-use Rattle.laws.specs.Store.{tab, laid}
+use Rattle.laws.specs.Store.{tab, pasted}
 use Rattle.laws.specs.Sum.{sum_of}
 use Rattle.answer.specs.Answer.{Answer, answers, refuses}
 use Rattle.laws.specs.Store.{over}
@@ -18,7 +18,7 @@ use Rattle.format.specs.Pieces.{number_at}
 use Rattle.format.specs.Format.{Block, width_in, height_in, places_in, level_in, length_in, block_in, record_answer, Found, blocks, damage, before, found_from, parse}
 use Rattle.look.specs.Look.{area_of, places_of, counted, list_found}
 use Rattle.reader.specs.Reading.{numbers_of, sides_of, levels_of}
-use Rattle.laws.proofs.Pasted.{pasted_none, pasted_set, pasted_more, length_pasted}
+use Rattle.laws.proofs.Pasted.{pasted_none, pasted_set, pasted_both, length_pasted}
 use Rattle.format.proofs.Parse.{one_more, damaged, found_nothing, length_some}
 use Rattle.format.proofs.Record.{Accepted, accepted}
 
@@ -29,7 +29,7 @@ unfolding numbers_of
 numbers_more [] b = refl
 numbers_more (x ∷ bs) b = ap (λ (l : List ℕ). x.number ∷ l) (numbers_more bs b)
 
-pub sides_more : (bs : List Block) (b : Block) → sides_of (bs ++ (b ∷ [])) ≡ sides_of bs ++ (b.w ∷ []) ++ (b.h ∷ [])
+pub sides_more : (bs : List Block) (b : Block) → sides_of (bs ++ (b ∷ [])) ≡ sides_of bs ++ (b.w ∷ b.h ∷ [])
 unfolding sides_of
 sides_more [] b = refl
 sides_more (x ∷ bs) b = ap (λ (l : List ℕ). x.w ∷ x.h ∷ l) (sides_more bs b)
@@ -165,8 +165,8 @@ module _ {s numbers₀ sides₀ : List ℕ} {levels₀ : List ℤ} {numbers side
 
     filling_next : {numbers' sides' : List ℕ} {levels' : List ℤ} → k < length numbers₀ → 2 * k + 1 < length sides₀ → places_of (list_found (parse s)) ≤ length levels₀
         → numbers' ≡ set numbers k (number_at (drop at s) 0)
-        → sides' ≡ set (set sides (2 * k) (width_in (drop at s))) (2 * k + 1) (height_in (drop at s))
-        → levels' ≡ laid levels place (places_in (drop at s)) (level_in (drop at s))
+        → sides' ≡ pasted sides (2 * k) (width_in (drop at s) ∷ height_in (drop at s) ∷ [])
+        → levels' ≡ pasted levels place (tab (places_in (drop at s)) (level_in (drop at s)))
         → Filling s numbers₀ sides₀ levels₀ numbers' sides' levels' (at + length_in (drop at s)) (k + 1) (place + places_in (drop at s))
     unfolding block_in
     filling_next room-n room-s room-l en es el =
@@ -174,7 +174,6 @@ module _ {s numbers₀ sides₀ : List ℕ} {levels₀ : List ℤ} {numbers side
         let b = block_in t in
         let n1 : length (numbers_of i.done) ≡ k = numbers_length i.done ∙ i.many in
         let n2 : length (sides_of i.done) ≡ 2 * k = sides_length i.done ∙ ap (λ (x : ℕ). 2 * x) i.many in
-        let n3 : length (sides_of i.done ++ (width_in t ∷ [])) ≡ 2 * k + 1 = length-append (sides_of i.done) (width_in t ∷ []) ∙ ap (λ (x : ℕ). x + 1) n2 in
         record {
           done = i.done ++ (b ∷ []);
           rest = now_next.later;
@@ -188,12 +187,11 @@ module _ {s numbers₀ sides₀ : List ℕ} {levels₀ : List ℤ} {numbers side
           numbers_are = en ∙ ap (λ (l : List ℕ). set l k (number_at t 0)) i.numbers_are
               ∙ pasted_set numbers₀ 0 k (numbers_of i.done) (number_at t 0) (omega (arith, n1)) (omega (arith, n1))
               ∙ ap (λ (l : List ℕ). over l numbers₀) (sym (numbers_more i.done b));
-          sides_are = es ∙ ap (λ (l : List ℕ). set (set l (2 * k) (width_in t)) (2 * k + 1) (height_in t)) i.sides_are
-              ∙ ap (λ (l : List ℕ). set l (2 * k + 1) (height_in t)) (pasted_set sides₀ 0 (2 * k) (sides_of i.done) (width_in t) (omega (arith, n2)) (omega (arith, n2)))
-              ∙ pasted_set sides₀ 0 (2 * k + 1) (sides_of i.done ++ (width_in t ∷ [])) (height_in t) (omega (arith, n3)) (omega (arith, n3))
+          sides_are = es ∙ ap (λ (l : List ℕ). pasted l (2 * k) (width_in t ∷ height_in t ∷ [])) i.sides_are
+              ∙ pasted_both sides₀ 0 (2 * k) (sides_of i.done) (width_in t ∷ height_in t ∷ []) (omega (arith, n2)) (omega (arith, n2))
               ∙ ap (λ (l : List ℕ). over l sides₀) (sym (sides_more i.done b));
-          levels_are = el ∙ ap (λ (l : List ℤ). laid l place (places_in t) (level_in t)) i.levels_are
-              ∙ pasted_more levels₀ 0 place (places_in t) (levels_of i.done) (level_in t) (omega (arith, i.long, next_room room-l)) (omega (arith, i.long))
+          levels_are = el ∙ ap (λ (l : List ℤ). pasted l place (tab (places_in t) (level_in t))) i.levels_are
+              ∙ pasted_both levels₀ 0 place (levels_of i.done) (tab (places_in t) (level_in t)) (omega (arith, i.long, next_room room-l)) (omega (arith, i.long))
               ∙ ap (λ (l : List ℤ). over l levels₀) (sym (levels_more i.done b));
         }
 
@@ -201,8 +199,8 @@ module _ {s numbers₀ sides₀ : List ℕ} {levels₀ : List ℤ} {numbers side
     pub filling_more : {numbers' sides' : List ℕ} {levels' : List ℤ} {x y : ℕ} → x ≡ length_in (drop at s) → y ≡ places_in (drop at s)
         → k < length numbers₀ → 2 * k + 1 < length sides₀ → places_of (list_found (parse s)) ≤ length levels₀
         → numbers' ≡ set numbers k (number_at (drop at s) 0)
-        → sides' ≡ set (set sides (2 * k) (width_in (drop at s))) (2 * k + 1) (height_in (drop at s))
-        → levels' ≡ laid levels place (places_in (drop at s)) (level_in (drop at s))
+        → sides' ≡ pasted sides (2 * k) (width_in (drop at s) ∷ height_in (drop at s) ∷ [])
+        → levels' ≡ pasted levels place (tab (places_in (drop at s)) (level_in (drop at s)))
         → Filling s numbers₀ sides₀ levels₀ numbers' sides' levels' (at + x) (k + 1) (place + y)
     filling_more {numbers'} {sides'} {levels'} ex ey room-n room-s room-l en es el =
         subst₂ (λ (a b : ℕ). Filling s numbers₀ sides₀ levels₀ numbers' sides' levels' (at + a) (k + 1) (place + b)) (sym ex) (sym ey)

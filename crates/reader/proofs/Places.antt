@@ -1,14 +1,16 @@
 -- The places of a record, eight to a byte of its map. Assumes nothing.
 use mathlib.Core.Bool.{Bool, false, cond}
 use mathlib.Core.List.{List}
-use mathlib.Core.Path.{◌≡◌, sym, ap, ap₂, ◌∙◌}
+use mathlib.Core.Path.{◌≡◌, refl, sym, ap, ap₂, ◌∙◌}
 use Prim.Native.Nat.{ℕ, zero, suc, ◌+◌, ◌*◌, ◌/◌, ◌%◌, ◌^◌, ◌≤◌, ◌<◌, min}
 use native.Mathlib.Nat.{zero-div, mul-zero, mul-one, mod-lt}
 use native.Mathlib.Omega.{arith}
 use lib.Count.{ones}
 use lib.Dec.{eqb, lit<}
 use lib.IntN.{pos}
-use lib.ListN.{length, get_or}
+use lib.ListN.{length, get_or, replicate}
+use Rattle.laws.specs.Store.{tab}
+use Rattle.laws.proofs.Laid.{tab_ext}
 use Rattle.format.specs.Pieces.{number_at, of_word, bit_of}
 use Rattle.format.specs.Format.{bit_in, count_in, list_in, listed_in, level_in, places_in, length_in}
 use Rattle.format.proofs.Sides.{sized_in}
@@ -28,6 +30,10 @@ picked s at last zero h room = ap of_word (mul-zero (number_at s (min at last)))
 picked s at last (suc zero) h room =
     ap of_word (mul-one (number_at s (min at last)) ∙ ap (number_at s) (let e : min at last ≡ at = omega arith in e))
 picked s at last (suc (suc b)) h room = absurd (omega arith)
+
+zeros : replicate 8 (pos 0) ≡ tab 8 (λ i. pos 0)
+unfolding tab
+zeros = refl
 
 -- ---- the eight places from q on, one after the other: x is their byte of the map
 
@@ -76,6 +82,9 @@ module _ (s : List ℕ) (q : ℕ) (whole : q % 8 ≡ 0) (inside : q + 8 ≤ plac
     pub count_same : count_in s (q + 8) ≡ count_in s q
     count_same = count_eight s q whole ∙ omega (arith, byte_ones (get_or s (5 + q / 8) 0) (omega arith), ap ones none, ones_none)
 
-    pub levels_zero : (i : ℕ) → i < 8 → pos 0 ≡ level_in s (q + i)
+    levels_zero : (i : ℕ) → i < 8 → pos 0 ≡ level_in s (q + i)
     unfolding level_in
     levels_zero i h = rw (off i h)
+
+    pub eight_zeros : replicate 8 (pos 0) ≡ tab 8 (λ i. level_in s (q + i))
+    eight_zeros = zeros ∙ tab_ext 8 (λ i. pos 0) (λ i. level_in s (q + i)) levels_zero

@@ -40,6 +40,7 @@ module _ (numbers sides : List ℕ) (levels : List ℤ) where
       let b = get_or sides (2 * n + 1) 0 in
       let next : suc (2 * n + 1) ≡ 2 * suc n = omega arith in
       sides_more (blocks_in n numbers sides levels) (block_at numbers sides levels n)
+      ∙ sym (append_assoc (sides_of (blocks_in n numbers sides levels)) (w ∷ []) (b ∷ []))
       ∙ ap (λ (l : List ℕ). l ++ (w ∷ []) ++ (b ∷ [])) (sides_held n (omega arith))
       ∙ ap (λ (l : List ℕ). l ++ (b ∷ [])) (sym (take-suc sides (2 * n) 0 (omega arith)) ∙ ap (λ (k : ℕ). take k sides) (sym (add-one (2 * n))))
       ∙ sym (take-suc sides (2 * n + 1) 0 (omega arith)) ∙ ap (λ (k : ℕ). take k sides) next

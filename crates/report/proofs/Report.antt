@@ -2,7 +2,7 @@
 use mathlib.Core.Bool.{Bool, true, false, ◌||◌}
 use mathlib.Core.List.{List}
 use mathlib.Core.Logic.{◌⊎◌, inl, inr, ⊎_elim}
-use mathlib.Core.Path.{◌≡◌, refl, sym, ap, subst, ◌∙◌}
+use mathlib.Core.Path.{◌≡◌, refl, sym, ap, ◌∙◌}
 use Prim.Native.Nat.{ℕ, ◌≤◌}
 use native.Mathlib.Omega.{arith}
 use lib.Dec.{ltb}
@@ -11,10 +11,9 @@ use Rattle.io.proofs.Counting.{prefix_len_of_le}
 use Rattle.io.specs.Counts.{IsPrefixLen}
 use Rattle.laws.proofs.Bool.{decided}
 use Rattle.laws.proofs.Pasted.{length_pasted}
-use Rattle.laws.specs.Store.{over}
 use Rattle.totals.proofs.Refusals.{refused_same, refusals}
 use Rattle.totals.specs.Totals.{Reported, refused, report_of}
-use Rattle.report.specs.Text.{text_of, file_report, NeverThree}
+use Rattle.report.specs.Text.{text_of, file_report, Printed, NeverThree}
 use Rattle.report.proofs.Decimal.{text_length}
 
 module _ (failed : Bool) (s : List ℕ) where
@@ -39,12 +38,8 @@ never_three failed s bytes e =
     other k is (inr (inr (inl e))) = omega arith
     other k is (inr (inr (inr e))) = omega arith
 
--- what is said of the text that stands in a buffer
-abbrev pub Put : Reported → List ℕ → List ℕ → ℕ → Type 0
-Put report old new n = IsPrefixLen n new × ((n ≡ length (text_of report)) × (new ≡ over (text_of report) old))
-
-pub all_put : (report : Reported) {report' : Reported} (old : List ℕ) {new : List ℕ} {n : ℕ} → report' ≡ report → 87 ≤ length old
-    → n ≡ length (text_of report) → new ≡ over (text_of report) old → Put report' old new n
-all_put report {report'} old {new} {n} same room e f =
+-- a text's length is a place of the buffer that it stands in
+pub printed_front : {report : Reported} {old new : List ℕ} {n : ℕ} → Printed report old n new → 87 ≤ length old → IsPrefixLen n new
+printed_front {report} {old} {new} {n} p room =
     let fits = text_length report in
-    subst (λ (x : Reported). Put x old new n) (sym same) (prefix_len_of_le n new (omega (arith, ap length f, length_pasted old 0 (text_of report) (omega arith))), (e, f))
+    prefix_len_of_le n new (omega (arith, p.value, ap length p.out_after, length_pasted old 0 (text_of report) (omega arith)))

@@ -3,7 +3,7 @@ use Rattle.std.specs.Prelude.{Bool, cond, ◌||◌, List, ◌++◌, ◌≡◌, �
 use Prim.Native.Char.{code}
 use Prim.Native.String.{String, len, char_at}
 use Rattle.io.specs.Digits.{last_digits}
-use Rattle.laws.specs.Store.{tab}
+use Rattle.laws.specs.Store.{tab, over}
 use Rattle.laws.specs.Sum.{sum_ℕ}
 use Rattle.format.specs.Pieces.{Bytes}
 use Rattle.totals.specs.Totals.{Reported, totals, refused, report_of}
@@ -26,6 +26,11 @@ line word n = word ++ (decimal n ++ ascii "\n")
 unfoldable pub text_of : Reported → List ℕ
 text_of (totals b l m) = line (ascii "blocks ") b ++ (line (ascii "levels ") l ++ line (ascii "magnitude ") m)
 text_of (refused k) = line (ascii "refused ") k
+
+-- where a report's text stands at the front of a buffer that was old, n bytes of it
+pub record Printed (report : Reported) (old : List ℕ) (n : ℕ) (new : List ℕ) : Type 0 where
+  pub value : n ≡ length (text_of report)
+  pub out_after : new ≡ over (text_of report) old
 
 -- "16 when the file is too long or a read fails, checked before all else": the report of a file that was read, or whose reading failed
 unfoldable pub file_report : Bool → List ℕ → Reported

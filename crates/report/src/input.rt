@@ -1,37 +1,22 @@
 // What the program reads.
+ghost use Rattle.std.specs.Prelude.{IfOk};
 ghost use Rattle.io.specs.Counts.{IsPrefixLen};
 
+use std::io;
 use std::io::Read;
 
-// What was read of a file: how many bytes, and whether a read failed.
-#[derive(Drop)]
-pub struct Input {
-    pub failed: bool,
-    pub count: usize,
-}
-
-// Reads into file, up to the source's end or until file is full.
-pub fn read_file(source: &mut impl Read, file: &mut [u8]) -> Input
-    ensures { IsPrefixLen result.count file.new }
+// Reads into file, up to the source's end or until file is full, and gives back how many bytes that is.
+pub fn read_file(source: &mut impl Read, file: &mut [u8]) -> io::Result<usize>
+    ensures { IfOk result (λ count. IsPrefixLen count file.new) }
 {
     let mut count = 0;
+    // Each read gives as many bytes as it has, so that no `for` goes over them.
     while count < file.len() {
-        let Ok(more) = source.read(&mut file[count..]) else {
-            return Input {
-                failed: true,
-                count,
-            };
-        };
+        let more = source.read(&mut file[count..])?;
         if more == 0 {
-            return Input {
-                failed: false,
-                count,
-            };
+            return Ok(count);
         }
         count += more;
     }
-    Input {
-        failed: false,
-        count,
-    }
+    Ok(count)
 }

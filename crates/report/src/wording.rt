@@ -1,13 +1,12 @@
 // The text of a report.
-ghost use Rattle.std.specs.Prelude.{◌≡◌, ◌+◌, ◌≤◌, length};
+ghost use Rattle.std.specs.Prelude.{◌≡◌, true, false, ◌+◌, ◌≤◌, [], length, MatchOption};
 ghost use Rattle.io.specs.Counts.{IsPrefixLen};
-ghost use Rattle.laws.specs.Store.{pasted, over};
-ghost use Rattle.answer.specs.Answer.{number_of};
-ghost use Rattle.totals.specs.Totals.{refused};
-ghost use Rattle.report.specs.Text.{line, text_of, file_report};
+ghost use Rattle.laws.specs.Store.{pasted};
+ghost use Rattle.totals.specs.Totals.{reported};
+ghost use Rattle.report.specs.Text.{line, file_report, Printed};
 
 use answer::Refusal;
-use totals::Report;
+use totals::Totals;
 
 // The longest file that is read.
 const LONGEST: usize = 65536;
@@ -18,12 +17,9 @@ fn put(out: &mut [u8], at: usize, piece: &[u8]) -> usize
     ensures value { result ≡ at + length piece.now }
     ensures out_after { out.new ≡ pasted out.old at piece.now }
 {
-    let mut i = 0;
-    while i < piece.len() {
-        out[at + i] = piece[i];
-        i += 1;
-    }
-    at + i
+    let end = at + piece.len();
+    out[at..end].copy_from_slice(piece);
+    end
 }
 
 // Puts a line: a word, a number and the line's end.
@@ -39,32 +35,38 @@ fn put_line(out: &mut [u8], at: usize, word: &[u8], n: u64) -> usize
     put(out, end, b"\n")
 }
 
-// Puts the line of a refused file. Gives back its length.
-fn put_refusal(out: &mut [u8], why: Refusal) -> usize
-    requires { 87 ≤ length out.old }
-    ensures value { result ≡ length (text_of (refused (number_of why))) }
-    ensures out_after { out.new ≡ over (text_of (refused (number_of why))) out.old }
+// The report of a file as it was read; there is none where a read failed.
+#[tactic(auto, unfolding(crate::specs::Text::file_report))]
+fn report(file: Option<&[u8]>) -> Result<Totals, Refusal>
+    ensures { MatchOption file.entry (reported result ≡ file_report true []) (λ s. reported result ≡ file_report false s.now) }
 {
-    put_line(out, 0, b"refused ", answer::number(why) as u64)
+    let file = file.ok_or(Refusal::BadFile)?;
+    if file.len() > LONGEST {
+        return Err(Refusal::BadFile);
+    }
+    totals::add_up(file)
 }
 
-// Puts into out what is printed of a file as it was read; failed says that a read failed. Gives back the text's length.
-pub fn put_report(failed: bool, file: &[u8], out: &mut [u8]) -> usize
+// Puts the text of a report. Gives back its length.
+fn put_text(report: Result<Totals, Refusal>, out: &mut [u8]) -> usize
     requires { 87 ≤ length out.old }
-    ensures prefix_len { IsPrefixLen result out.new }
-    ensures value { result ≡ length (text_of (file_report failed file.now)) }
-    ensures out_after { out.new ≡ over (text_of (file_report failed file.now)) out.old }
+    ensures { Printed (reported report) out.old result out.new }
 {
-    if failed | (file.len() > LONGEST) {
-        return put_refusal(out, Refusal::BadFile);
-    }
-    let report = totals::add_up(file);
     match report {
-        Report::Of(t) => {
+        Ok(t) => {
             let levels = put_line(out, 0, b"blocks ", t.blocks as u64);
             let magnitude = put_line(out, levels, b"levels ", t.levels);
             put_line(out, magnitude, b"magnitude ", t.magnitude)
         }
-        Report::Refused(why) => put_refusal(out, why),
+        Err(why) => put_line(out, 0, b"refused ", u64::from(u32::from(why))),
     }
+}
+
+// Puts into out what is printed of a file. Gives back the text's length.
+pub fn put_report(file: Option<&[u8]>, out: &mut [u8]) -> usize
+    requires { 87 ≤ length out.old }
+    ensures prefix_len { IsPrefixLen result out.new }
+    ensures text_after { MatchOption file.entry (Printed (file_report true []) out.old result out.new) (λ s. Printed (file_report false s.now) out.old result out.new) }
+{
+    put_text(report(file), out)
 }

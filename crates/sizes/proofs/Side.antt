@@ -2,7 +2,8 @@
 use mathlib.Core.Path.{◌≡◌, refl, sym, ap, ap₂, subst, ◌∙◌}
 use mathlib.Core.Logic.{◌⊎◌, inl, inr, ⊎_elim}
 use mathlib.Core.Bool.{Bool, true, false, cond, ◌||◌}
-use Prim.Native.Nat.{ℕ, ◌+◌, ◌-◌, ◌≤◌, ◌^◌}
+use Prim.Native.Nat.{ℕ, ◌+◌, ◌-◌, ◌*◌, ◌≤◌, ◌^◌}
+use native.Mathlib.Nat.{mul-le-mul}
 use native.Mathlib.Omega.{arith}
 use lib.Dec.{T, eqb, lit≤}
 use borrow.Author.Tests.{eqb-true, ne_eqb}
@@ -59,6 +60,12 @@ side_bounds =
     (record { low = lit≤ tt; high = lit≤ tt; power = refl })
     (record { low = lit≤ tt; high = lit≤ tt; power = refl })
     (record { low = lit≤ tt; high = lit≤ tt; power = refl })
+
+-- a block has at most 1,024 places
+pub size_small : (w h : ℕ) → is_side w ≡ true → is_side h ≡ true → w * h ≤ 1024
+size_small w h sw sh =
+    let a = side_bounds w sw in let b = side_bounds h sh in
+    omega (arith, mul-le-mul a.high b.high)
 
 -- the logarithm of anything lies from 2 to 5
 pub record Logged (l : ℕ) : Type 0 where

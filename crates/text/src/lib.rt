@@ -1,12 +1,10 @@
-// Whole numbers as text, for the programs: read from bytes, and written to standard output; and the bytes that a program reads.
+// What the programs read: bytes, the words of a text, and whole numbers.
 #![tactic(auto)]
 
 mod input;
-mod print;
-mod read;
+mod number;
+mod words;
 
 pub use input::read_full;
-pub use print::{print_in_column, print_signed, print_signed_in_column, print_text};
-pub use read::{
-    Word, digit, is_digit, is_end, is_word_end, narrow, next_word, signed, skip_spaces,
-};
+pub use number::Number;
+pub use words::Words;

@@ -6,7 +6,7 @@ use Prim.Native.Nat.{ℕ, zero, suc}
 use lib.IntN.{ℤ}
 use lib.ListN.{length}
 use Rattle.laws.proofs.Laid.{tab_ext}
-use Rattle.tickets.specs.Batch.{Batch}
+use Rattle.tickets.specs.declared.Batch.{Batch}
 use Rattle.tickets.specs.Open.{new_ticket}
 use Rattle.tickets.specs.Run.{State, state_at, Step, nth, step, state_after, run}
 use Rattle.tickets.specs.Condition3.{Condition3, answer_to, covered, ticket_of, number_at, state_of, settled}

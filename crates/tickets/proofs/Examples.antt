@@ -1,7 +1,7 @@
 -- Document 01's examples of batches, computed: "Line count 4: one four-line batch, no eight. Start 28 with 8 of 32 lines: number 5; with 4:
 -- accepted." With a list of four on a block of 8 × 4, and an opening that is accepted. Assumes nothing.
 use mathlib.Core.Path.{◌≡◌, refl}
-use mathlib.Core.Bool.{true, false}
+use mathlib.Core.Bool.{false}
 use mathlib.Core.List.{[], ◌∷◌}
 use Prim.Native.Nat.{ℕ}
 use lib.IntN.{pos}

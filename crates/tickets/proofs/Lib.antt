@@ -1,4 +1,4 @@
-pub mod Batch
+pub mod Taken
 pub mod ByPlace
 pub mod Condition3
 pub mod ExampleList

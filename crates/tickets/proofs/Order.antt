@@ -10,10 +10,11 @@ use Rattle.answer.specs.Answer.{answers}
 use Rattle.answer.proofs.Answer.{passed}
 use Rattle.sizes.proofs.Side.{side_bounds}
 use Rattle.tickets.specs.Mark.{marked, any_from, all_marked, within, with_lines}
-use Rattle.tickets.specs.Batch.{Batch, out_of_order, answer_unless, with_batch}
+use Rattle.tickets.specs.Batch.{out_of_order, answer_unless, with_batch}
+use Rattle.tickets.specs.declared.Batch.{Batch}
 use Rattle.tickets.specs.declared.Ticket.{Ticket}
 use Rattle.tickets.proofs.Mark.{marked_with, within_out}
-use Rattle.tickets.proofs.Batch.{Taken, taken}
+use Rattle.tickets.proofs.Taken.{Taken, taken}
 
 -- ---- marks
 

@@ -1,26 +1,25 @@
 -- A lent list of batches, played: after i turns the state is what the first i batches leave, and the first i answers are written.
 -- Assumes nothing.
 use mathlib.Core.Path.{◌≡◌, refl, sym, ap, ap₂, ◌∙◌}
-use mathlib.Core.Bool.{Bool, false, ◌||◌}
+use mathlib.Core.Bool.{Bool, false}
 use mathlib.Core.Logic.{⊎_elim}
 use mathlib.Core.List.{List, ◌∷◌, ◌++◌, map}
 use Prim.Native.Nat.{ℕ, ◌+◌, ◌<◌, ◌≤◌, ◌^◌}
 use native.Mathlib.Numerals.{add-one}
 use native.Mathlib.Omega.{arith}
-use borrow.Author.Tests.{ltb-false}
-use lib.Dec.{T, eqb, ltb}
+use lib.Dec.{T, eqb}
 use lib.IntN.{ℤ, pos}
 use lib.ListN.{length, get_or, set, drop}
-use Rattle.laws.proofs.Bool.{neither, decided}
+use Rattle.laws.proofs.Bool.{decided}
 use Rattle.laws.proofs.Front.{front, map_tab}
 use Rattle.laws.proofs.Laid.{length_tab, get_or_tab}
 use Rattle.laws.proofs.Store.{Stored, stored_none, stored_turn, stored_all}
-use Rattle.answer.specs.Answer.{Answer, answers, lowest, after, told, signed_of, is_small}
-use Rattle.answer.specs.declared.Outcome.{Outcome}
-use Rattle.answer.specs.declared.Outcome.TheVariants.{Done, Refused}
+use Rattle.answer.specs.Answer.{Answer, answers, refuses, number_of, lowest, after, told, signed_of, is_small}
+use Rattle.std.specs.Prelude.{Ok, Err}
 use Rattle.answer.specs.declared.Refusal.{Refusal}
-use Rattle.answer.proofs.Answer.{passed, the_answer, small_if, guarded_small}
-use Rattle.tickets.specs.Batch.{Batch, batch_of, line_count, answer_unless, batch}
+use Rattle.answer.proofs.Answer.{small_if, guarded_small}
+use Rattle.tickets.specs.Batch.{batch_of, line_count, answer_unless, batch}
+use Rattle.tickets.specs.declared.Batch.{Batch}
 use Rattle.tickets.specs.Play.{batches_of, play_answer, Played, state_unless, played_as, played, step_given, play_given, AsSettled}
 use Rattle.tickets.specs.Run.{State, state_at, Step, Run, nth, step, state_after, run}
 use Rattle.tickets.specs.declared.Batched.{Batched}
@@ -58,47 +57,22 @@ same_played : {a a' : Answer} {s s' : State} {l l' : List ℤ} → a ≡ a' → 
     → ◌≡◌ {A = Played} (record { answer = a; state = s; answered = l }) (record { answer = a'; state = s'; answered = l' })
 same_played p q r = rw (p, q, r)
 
-done_is : (all : Run) (s : State) (room : List ℤ) (r : Batched) {a : Answer} {n : ℕ} {scratch output answered : List ℤ}
-    → told r.outcome ≡ a → r.outcome ≡ Done n
-    → state_at r.ticket scratch output ≡ all.state → answered ≡ map signed_of all.answers ++ drop (length all.answers) room
-    → play_given r scratch output answered ≡ played_as all a s room
+done_is : (all : Run) (s : State) (room : List ℤ) (t : Ticket) {a : Answer} {n : ℕ} {scratch output answered : List ℤ}
+    → answers n ≡ a
+    → state_at t scratch output ≡ all.state → answered ≡ map signed_of all.answers ++ drop (length all.answers) room
+    → play_given (record { ticket = t; outcome = Ok n }) scratch output answered ≡ played_as all a s room
 unfolding played_as
-done_is all s room r {a} {n} h o p q =
-    let e : a ≡ answers n = sym h ∙ ap told o in
-    same_played h
-    (p ∙ sym (ap (λ (x : Answer). state_unless x all.state s) e))
-    (q ∙ sym (ap (λ (x : Answer). after x (map signed_of all.answers ++ drop (length all.answers) room) room) e))
+done_is all s room t e p q =
+    same_played e
+    (p ∙ ap (λ (x : Answer). state_unless x all.state s) e)
+    (q ∙ ap (λ (x : Answer). after x (map signed_of all.answers ++ drop (length all.answers) room) room) e)
 
--- ---- the arguments of a list that is played
-
-pub record Playable (n : ℕ) (kinds : List ℕ) (starts lines room : ℕ) : Type 0 where
-  pub many : n ≡ length kinds
-  pub long_starts : n ≤ starts
-  pub long_lines : n ≤ lines
-  pub long_room : n ≤ room
-
-pub playable : (n : ℕ) (kinds : List ℕ) (starts lines room : ℕ) → answers n ≡ play_answer kinds starts lines room
-    → Playable n kinds starts lines room
-unfolding play_answer
-playable n kinds starts lines room e =
-    let s2 = passed _ 2 _ _ n e in
-    let s3 = passed _ 3 _ _ n s2.1 in
-    let many = the_answer (length kinds) n s3.1 in
-    let a = neither (ltb starts (length kinds)) (ltb lines (length kinds) || ltb room (length kinds)) s3.0 in
-    let b = neither (ltb lines (length kinds)) (ltb room (length kinds)) a.1 in
-    record {
-      many = many;
-      long_starts = omega (arith, ltb-false starts (length kinds) a.0);
-      long_lines = omega (arith, ltb-false lines (length kinds) b.0);
-      long_room = omega (arith, ltb-false room (length kinds) b.1);
-    }
+-- ---- the loop
 
 batch_at : (kinds starts lines : List ℕ) (i : ℕ) → i < length kinds
     → nth (batches_of kinds starts lines) i ≡ batch_of (eqb (get_or kinds i 0) 1) (get_or starts i 0) (get_or lines i 0)
 unfolding batches_of
 batch_at kinds starts lines i b = get_or_tab (length kinds) (λ i. batch_of (eqb (get_or kinds i 0) 1) (get_or starts i 0) (get_or lines i 0)) i (batch_of false 0 0) b
-
--- ---- the loop
 
 -- the answer to batch k of the list, as it is written
 abbrev pub written_at : List ℤ → State → List Batch → ℕ → ℤ
@@ -110,24 +84,13 @@ pub record Going (residuals : List ℤ) (s : State) (bs : List Batch) (room : Li
   pub state : state_at t scratch output ≡ state_after residuals s bs i
   pub stored : Stored answered room i (λ k. k) (written_at residuals s bs)
 
--- the place lies within each lent list
-pub record Within (i kinds starts lines room : ℕ) : Type 0 where
-  pub in_kinds : i < kinds
-  pub in_starts : i < starts
-  pub in_lines : i < lines
-  pub in_room : i < room
-
 -- a turn: r is what its batch gives back, with the work buffers after it
-pub record Turn (residuals : List ℤ) (s : State) (kinds starts lines : List ℕ) (room : List ℤ) (i : ℕ) (t : Ticket) (scratch output answered : List ℤ)
-    (r : Batched) (scratch' output' : List ℤ) : Type 0 where
-  pub going : Going residuals s (batches_of kinds starts lines) room i t scratch output answered
-  pub few : i < length kinds
-  pub gives : step_given r scratch' output' ≡ step residuals (state_at t scratch output) (batch_of (eqb (get_or kinds i 0) 1) (get_or starts i 0) (get_or lines i 0))
-
-module _ {residuals : List ℤ} {s : State} {kinds starts lines : List ℕ} {room : List ℤ} {i : ℕ} {t : Ticket} {scratch output answered : List ℤ}
-    {r : Batched} {scratch' output' : List ℤ} (turn : Turn residuals s kinds starts lines room i t scratch output answered r scratch' output') where
+module _ (kinds starts lines : List ℕ) (r : Batched) {residuals : List ℤ} {s : State} {room : List ℤ} {i : ℕ} {t : Ticket}
+    {scratch output answered scratch' output' : List ℤ} (going : Going residuals s (batches_of kinds starts lines) room i t scratch output answered)
+    (few : i < length kinds)
+    (gives : step_given r scratch' output' ≡ step residuals (state_at t scratch output) (batch_of (eqb (get_or kinds i 0) 1) (get_or starts i 0) (get_or lines i 0))) where
   turn_is : step_given r scratch' output' ≡ step residuals (state_after residuals s (batches_of kinds starts lines) i) (nth (batches_of kinds starts lines) i)
-  turn_is = turn.gives ∙ ap₂ (step residuals) turn.going.state (sym (batch_at kinds starts lines i turn.few))
+  turn_is = gives ∙ ap₂ (step residuals) going.state (sym (batch_at kinds starts lines i few))
 
   pub turn_small : T (is_small (told r.outcome))
   turn_small =
@@ -140,7 +103,7 @@ module _ {residuals : List ℤ} {s : State} {kinds starts lines : List ℕ} {roo
   going_on h =
       record {
         state = rw (add-one i) (ap (λ (x : Step). x.state) turn_is);
-        stored = stored_turn turn.going.stored refl (h ∙ ap (λ (x : Step). signed_of x.answer) turn_is);
+        stored = stored_turn going.stored refl (h ∙ ap (λ (x : Step). signed_of x.answer) turn_is);
       }
 
 module _ (residuals : List ℤ) (s : State) (kinds starts lines : List ℕ) (room : List ℤ) where
@@ -156,23 +119,23 @@ module _ (residuals : List ℤ) (s : State) (kinds starts lines : List ℕ) (roo
   many = length_tab (length kinds) _
 
   -- the whole list
-  pub going_all : {i : ℕ} (r : Batched) {scratch output answered : List ℤ} → Going residuals s bs room i r.ticket scratch output answered
-      → i ≡ length kinds → length kinds ≤ length room → told r.outcome ≡ play_answer kinds (length starts) (length lines) (length room)
-      → {n : ℕ} → r.outcome ≡ Done n → play_given r scratch output answered ≡ played residuals s kinds starts lines room
+  pub going_all : {i n : ℕ} (t : Ticket) {scratch output answered : List ℤ} → Going residuals s bs room i t scratch output answered
+      → i ≡ length kinds → i ≤ length room → answers n ≡ play_answer kinds (length starts) (length lines) (length room)
+      → play_given (record { ticket = t; outcome = Ok n }) scratch output answered ≡ played residuals s kinds starts lines room
   unfolding played run
-  going_all {i} r inv all long a o =
+  going_all {i} t inv all long a =
       let e : i ≡ length bs = all ∙ sym many in
       let f : ℕ → Answer = λ k. (step residuals (state_after residuals s bs k) (nth bs k)).answer in
-      done_is (run residuals s bs) s room r a o
+      done_is (run residuals s bs) s room t a
       (inv.state ∙ ap (state_after residuals s bs) e)
       (stored_all inv.stored e
-      ∙ front room (length bs) (written_at residuals s bs) (pos 0) (omega (arith, many))
+      ∙ front room (length bs) (written_at residuals s bs) (pos 0) (omega (arith, e))
       ∙ ap₂ (λ (l : List ℤ) (k : ℕ). l ++ drop k room) (sym (map_tab signed_of (length bs) f)) (sym (length_tab (length bs) f)))
 
-  pub not_played : {o : Outcome} {x : Refusal} → told o ≡ play_answer kinds (length starts) (length lines) (length room) → o ≡ Refused x
-      → play_given (record { ticket = s.ticket; outcome = o }) s.scratch s.output room ≡ played residuals s kinds starts lines room
+  pub not_played : (why : Refusal) → refuses (number_of why) ≡ play_answer kinds (length starts) (length lines) (length room)
+      → play_given (record { ticket = s.ticket; outcome = Err why }) s.scratch s.output room ≡ played residuals s kinds starts lines room
   unfolding played played_as
-  not_played a e = rw (sym a, e)
+  not_played why e = rw (sym e)
 
 -- condition 3 at the list
 pub as_settled : (t : Ticket) (residuals scratch output : List ℤ) (kinds starts lines : List ℕ) (room : List ℤ) (given : Played)

@@ -12,7 +12,8 @@ use Rattle.laws.proofs.Bool.{both, either, neither}
 use Rattle.laws.proofs.Every.{every_all, every_each}
 use Rattle.answer.specs.Answer.{Answer, answers, refuses, lowest}
 use Rattle.tickets.specs.Mark.{within}
-use Rattle.tickets.specs.Batch.{Batch, is_count, line_count, out_of_range}
+use Rattle.tickets.specs.Batch.{is_count, line_count, out_of_range}
+use Rattle.tickets.specs.declared.Batch.{Batch}
 use Rattle.tickets.specs.Condition3.{covers, answer_to, accepted, covered_with}
 use Rattle.tickets.proofs.Mark.{within_lt}
 

@@ -9,7 +9,7 @@ use lib.Arith.{digits_lt}
 use lib.IntN.{ℤ}
 use lib.ListN.{length}
 use Rattle.answer.specs.Answer.{answers}
-use Rattle.tickets.specs.Batch.{Batch}
+use Rattle.tickets.specs.declared.Batch.{Batch}
 use Rattle.tickets.specs.Open.{open_answer, new_ticket}
 use Rattle.tickets.specs.Run.{state_at, Run, run}
 use Rattle.tickets.specs.Condition3.{covered, ticket_of, number_at, state_of, settled}

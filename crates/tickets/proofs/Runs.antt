@@ -8,7 +8,7 @@ use Rattle.laws.specs.Store.{tab}
 use Rattle.laws.proofs.Front.{tab_cons}
 use Rattle.laws.proofs.Laid.{tab_ext}
 use Rattle.answer.specs.Answer.{Answer}
-use Rattle.tickets.specs.Batch.{Batch}
+use Rattle.tickets.specs.declared.Batch.{Batch}
 use Rattle.tickets.specs.Run.{State, Step, Run, nth, step, state_after, run}
 use Rattle.tickets.specs.declared.Ticket.{Ticket}
 

@@ -19,7 +19,8 @@ use Rattle.sizes.proofs.Side.{side_bounds}
 use Rattle.block.specs.Lines.{column_lines, row_lines}
 use Rattle.block.proofs.Exact.{column_lines_exact, row_lines_exact}
 use Rattle.tickets.specs.Mark.{marked, mask_of, any_from, all_marked, within, with_lines}
-use Rattle.tickets.specs.Batch.{Batch, line_count, out_of_range, out_of_order, answer_unless, with_batch, lines_of, ticket_after, Given, batch}
+use Rattle.tickets.specs.Batch.{line_count, out_of_range, out_of_order, answer_unless, with_batch, lines_of, ticket_after, Given, batch}
+use Rattle.tickets.specs.declared.Batch.{Batch}
 use Rattle.tickets.specs.Run.{State, Step, column_step, row_step, step}
 use Rattle.tickets.specs.Condition3.{covers, answer_to, accepted, covered_with, ticket_of, held, number_at, state_of}
 use Rattle.tickets.specs.declared.Ticket.{Ticket}

@@ -5,15 +5,11 @@ use Rattle.sizes.specs.Size.{is_side}
 use Rattle.block.specs.Answer.{has_kinds}
 use Rattle.block.specs.Lines.{column_lines, row_lines}
 use Rattle.tickets.specs.Mark.{any_from, all_marked, with_lines}
+use Rattle.tickets.specs.declared.Batch.{Batch}
 use Rattle.tickets.specs.declared.Batched.{Batched}
 use Rattle.tickets.specs.declared.Ticket.{Ticket}
 
 -- a column batch or a row batch: its first line, and how many lines
-pub record Batch : Type 0 where
-  pub row : Bool
-  pub start : ℕ
-  pub lines : ℕ
-
 abbrev pub batch_of : Bool → ℕ → ℕ → Batch
 batch_of row start lines = record { row = row; start = start; lines = lines }
 

@@ -1,7 +1,7 @@
 -- Condition 3's sentence, place by place, of every list of batches.
 use Rattle.std.specs.Prelude.{◌≡◌, List, ℕ, ℤ, length}
 use Rattle.answer.specs.Answer.{answers}
-use Rattle.tickets.specs.Batch.{Batch}
+use Rattle.tickets.specs.declared.Batch.{Batch}
 use Rattle.tickets.specs.Open.{open_answer, new_ticket}
 use Rattle.tickets.specs.Run.{state_at, run}
 use Rattle.tickets.specs.Condition3.{covered}

@@ -7,7 +7,8 @@ use Rattle.laws.specs.Table.{every}
 use Rattle.answer.specs.Answer.{Answer, answers, refuses, lowest}
 use Rattle.block.specs.Block.{column_at, row_at}
 use Rattle.tickets.specs.Mark.{mask_of, within}
-use Rattle.tickets.specs.Batch.{Batch, line_count, out_of_range}
+use Rattle.tickets.specs.Batch.{line_count, out_of_range}
+use Rattle.tickets.specs.declared.Batch.{Batch}
 use Rattle.tickets.specs.Open.{open_answer, new_ticket}
 use Rattle.tickets.specs.Run.{State, state_at, Run, nth, run}
 use Rattle.tickets.specs.declared.Ticket.{Ticket}

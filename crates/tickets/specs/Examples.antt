@@ -1,7 +1,8 @@
 -- What an opening and condition 3, as they are stated, say of one list of batches: a premise that no opening meets would leave them saying nothing.
 use Rattle.std.specs.Prelude.{◌≡◌, true, false, List, [], ◌∷◌, ℕ, ℤ, pos, replicate}
 use Rattle.answer.specs.Answer.{answers, refuses, told}
-use Rattle.tickets.specs.Batch.{Batch, batch_of}
+use Rattle.tickets.specs.Batch.{batch_of}
+use Rattle.tickets.specs.declared.Batch.{Batch}
 use Rattle.tickets.specs.Open.{Opening}
 use Rattle.tickets.specs.Run.{state_at, run}
 use Rattle.tickets.specs.Condition3.{Condition3}

@@ -1,5 +1,6 @@
 pub mod Mark
 pub mod Batch
+pub mod Admitted
 pub mod Open
 pub mod Run
 pub mod Condition3

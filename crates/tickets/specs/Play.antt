@@ -3,7 +3,8 @@ use Rattle.std.specs.Prelude.{◌≡◌, Bool, not, ◌||◌, List, [], ◌∷�
 use Rattle.laws.specs.Store.{tab}
 use Rattle.laws.specs.Table.{every}
 use Rattle.answer.specs.Answer.{Answer, answers, refuses, lowest, after, signed_of, told}
-use Rattle.tickets.specs.Batch.{Batch, batch_of}
+use Rattle.tickets.specs.Batch.{batch_of}
+use Rattle.tickets.specs.declared.Batch.{Batch}
 use Rattle.tickets.specs.Run.{State, state_at, Step, Run, run}
 use Rattle.tickets.specs.Open.{open_answer, new_ticket}
 use Rattle.tickets.specs.Condition3.{settled}

@@ -3,7 +3,8 @@
 use Rattle.std.specs.Prelude.{false, cond, List, ℕ, zero, suc, ℤ, length, get_or}
 use Rattle.laws.specs.Store.{tab}
 use Rattle.answer.specs.Answer.{Answer}
-use Rattle.tickets.specs.Batch.{Batch, batch_of, Given, batch}
+use Rattle.tickets.specs.Batch.{batch_of, Given, batch}
+use Rattle.tickets.specs.declared.Batch.{Batch}
 use Rattle.tickets.specs.declared.Ticket.{Ticket}
 
 -- the ticket and the two work buffers

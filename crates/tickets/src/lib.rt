@@ -1,18 +1,23 @@
 // Tickets: a block done in batches of lines, in any order.
 #![tactic(auto)]
 
-ghost use Rattle.std.specs.Prelude.{◌≡◌, true, false, ◌+◌, ◌≤◌, length};
+ghost use Rattle.std.specs.Prelude.{◌≡◌, true, false, ◌+◌, ◌≤◌, length, IfOk};
 ghost use Rattle.answer.specs.Answer.{told};
+ghost use Rattle.kernels.specs.Kind.{kind_number};
 ghost use Rattle.tickets.specs.Run.{state_at, step};
 ghost use Rattle.tickets.specs.Play.{are_kinds, play_answer, step_given, play_given, played, AsSettled};
 ghost use Rattle.tickets.specs.Open.{new_ticket, Opening};
 ghost use Rattle.tickets.specs.Mark.{any_from, all_marked, with_lines};
+ghost use Rattle.tickets.specs.Admitted.{admitted};
 ghost use Rattle.tickets.specs.Batch.{batch_of, line_count, out_of_range, out_of_order, answer_unless, with_batch, batch, gives};
 
 use answer::{Outcome, Refusal};
+use block::Shape;
+use sizes::Size;
 
 // Document 01: "A ticket holds sides, kinds and one mark per column line and row line." Bit j of a mask is the mark of line j;
-// a mask has room for a mark past the line count, which every batch refuses.
+// a mask has room for a mark past the line count, which every batch refuses. The numbers are the C interface's, which lends tickets
+// whose sides and kinds are any.
 #[repr(C)]
 #[derive(Clone, Copy)]
 pub struct Ticket {
@@ -24,7 +29,41 @@ pub struct Ticket {
     pub rows: u32,
 }
 
-// What an opening or a batch gives back.
+// Lines of a block's pass: the first of them, and how many. Condition 3's definitions tell rows from columns by a Bool.
+#[derive(Clone, Copy)]
+pub struct Batch {
+    pub row: bool,
+    pub start: usize,
+    pub lines: usize,
+}
+
+impl Batch {
+    // A column batch: lines of the first pass, from the residuals into the scratch buffer.
+    #[inline(always)]
+    pub fn columns(start: usize, lines: usize) -> Batch
+        ensures { result ≡ batch_of false start lines }
+    {
+        Batch {
+            row: false,
+            start,
+            lines,
+        }
+    }
+
+    // A row batch: lines of the second pass, scaled where a block is, from the scratch buffer into the output.
+    #[inline(always)]
+    pub fn rows(start: usize, lines: usize) -> Batch
+        ensures { result ≡ batch_of true start lines }
+    {
+        Batch {
+            row: true,
+            start,
+            lines,
+        }
+    }
+}
+
+// What an opening or a batch gives back: a ticket whether it is accepted or refused, so that this isn't a Result of the two.
 #[derive(Drop)]
 pub struct Batched {
     pub ticket: Ticket,
@@ -43,7 +82,7 @@ pub fn open(
 ) -> Batched
     ensures { Opening w h column_kind row_kind residuals.now (length scratch.now) (length output.now) result }
 {
-    let outcome = block::admit(
+    match block::admit(
         w,
         h,
         column_kind,
@@ -51,16 +90,15 @@ pub fn open(
         residuals,
         scratch.len(),
         output.len(),
-    );
-    let Outcome::Done(_) = outcome else {
-        return Batched {
+    ) {
+        Ok(_) => Batched {
+            ticket: new_ticket(w, h, column_kind, row_kind),
+            outcome: Ok(0),
+        },
+        Err(why) => Batched {
             ticket: new_ticket(0, 0, 0, 0),
-            outcome,
-        };
-    };
-    Batched {
-        ticket: new_ticket(w, h, column_kind, row_kind),
-        outcome: Outcome::Done(0),
+            outcome: Err(why),
+        },
     }
 }
 
@@ -79,23 +117,26 @@ pub fn new_ticket(w: usize, h: usize, column_kind: u32, row_kind: u32) -> Ticket
 }
 
 // Whether a line from n on is marked.
+#[tactic(auto, using(crate::proofs::Mark::any_from_is))]
 fn any_from(mask: u32, n: usize) -> bool
     requires { n ≤ 32 }
     ensures { result ≡ any_from n mask }
 {
-    (mask as u64) >> n != 0
+    u64::from(mask) >> n != 0
 }
 
 // The mask with the lines from start on marked.
+#[tactic(auto, using(crate::proofs::Mark::with_fits, crate::proofs::Mark::with_is))]
 fn with_lines(mask: u32, start: usize, lines: usize) -> u32
     requires { start + lines ≤ 32 }
     ensures { result ≡ with_lines mask start lines }
 {
     let run = ((1u64 << lines) - 1) << start;
-    ((mask as u64) | run) as u32
+    (u64::from(mask) | run) as u32
 }
 
 // Whether each of the first n lines is marked.
+#[tactic(auto, using(crate::proofs::Mark::all_marked_is))]
 fn all_marked(mask: u32, n: usize) -> bool
     requires { n ≤ 32 }
     ensures { result ≡ all_marked n mask }
@@ -104,6 +145,7 @@ fn all_marked(mask: u32, n: usize) -> bool
 }
 
 // Number 6's rule.
+#[tactic(auto, unfolding(crate::specs::Batch::out_of_order))]
 pub fn out_of_order(t: Ticket, row: bool) -> bool
     requires { (t.w ≤ 32) × (t.h ≤ 32) }
     ensures { result ≡ out_of_order t row }
@@ -113,6 +155,7 @@ pub fn out_of_order(t: Ticket, row: bool) -> bool
 }
 
 // Number 5's rule.
+#[tactic(auto, unfolding(crate::specs::Batch::out_of_range))]
 fn out_of_range(count: usize, start: usize, lines: usize) -> bool
     ensures { result ≡ out_of_range count start lines }
 {
@@ -121,182 +164,126 @@ fn out_of_range(count: usize, start: usize, lines: usize) -> bool
 }
 
 // The ticket with a batch's lines marked.
-pub fn with_batch(t: Ticket, row: bool, start: usize, lines: usize) -> Ticket
-    requires { start + lines ≤ 32 }
-    ensures { result ≡ with_batch t (batch_of row start lines) }
+#[inline(always)]
+#[tactic(auto, unfolding(crate::specs::Batch::with_batch))]
+pub fn with_batch(t: Ticket, b: Batch) -> Ticket
+    requires { b.start + b.lines ≤ 32 }
+    ensures { result ≡ with_batch t b }
 {
-    if row {
-        return Ticket {
-            w: t.w,
-            h: t.h,
-            column_kind: t.column_kind,
-            row_kind: t.row_kind,
-            columns: t.columns,
-            rows: with_lines(t.rows, start, lines),
-        };
-    }
-    Ticket {
-        w: t.w,
-        h: t.h,
-        column_kind: t.column_kind,
-        row_kind: t.row_kind,
-        columns: with_lines(t.columns, start, lines),
-        rows: t.rows,
+    if b.row {
+        Ticket {
+            rows: with_lines(t.rows, b.start, b.lines),
+            ..t
+        }
+    } else {
+        Ticket {
+            columns: with_lines(t.columns, b.start, b.lines),
+            ..t
+        }
     }
 }
 
 // How many lines a block has of a batch's kind.
+#[inline(always)]
 fn line_count(t: Ticket, row: bool) -> usize
     ensures { result ≡ line_count t.w t.h row }
 {
     if row { t.h } else { t.w }
 }
 
-// The outcome of a batch that is lent buffers of these lengths to read and to write: the lowest number that applies, or its lines.
+// The block of a batch that is lent buffers of these lengths to read and to write, or the lowest number that applies.
 // short: a further lent buffer is too short.
-pub fn batch_outcome(
+#[inline(always)]
+#[tactic(auto, unfolding(crate::specs::Batch::answer_unless, answer::specs::Answer::lowest), using(sizes::proofs::Side::side_bounds))]
+pub fn admit(
     short: bool,
     t: Ticket,
-    row: bool,
-    start: usize,
-    lines: usize,
+    b: Batch,
     source: usize,
     target: usize,
-) -> Outcome
-    ensures { told result ≡ answer_unless short t (batch_of row start lines) source target }
+) -> Result<Shape, Refusal>
+    ensures answer { admitted b.lines result ≡ answer_unless short t b source target }
+    ensures as_asked { IfOk result (λ s. (s.size.w ≡ t.w) × (s.size.h ≡ t.h) × (kind_number s.columns ≡ t.column_kind) × (kind_number s.rows ≡ t.row_kind)) }
 {
-    if !(sizes::is_side(t.w) & sizes::is_side(t.h)) {
-        return Outcome::Refused(Refusal::BadSize);
+    let size = Size::new(t.w, t.h)?;
+    let shape = Shape::new(size, t.column_kind, t.row_kind)?;
+    let places = size.places();
+    if short | ((source < places) | (target < places)) {
+        return Err(Refusal::ShortBuffer);
     }
-    if !block::has_kinds(t.w, t.h, t.column_kind, t.row_kind) {
-        return Outcome::Refused(Refusal::BadKind);
+    if out_of_range(line_count(t, b.row), b.start, b.lines) {
+        return Err(Refusal::BatchRange);
     }
-    let size = t.w * t.h;
-    if short | ((source < size) | (target < size)) {
-        return Outcome::Refused(Refusal::ShortBuffer);
+    if out_of_order(t, b.row) {
+        return Err(Refusal::BatchOrder);
     }
-    if out_of_range(line_count(t, row), start, lines) {
-        return Outcome::Refused(Refusal::BatchRange);
-    }
-    if out_of_order(t, row) {
-        return Outcome::Refused(Refusal::BatchOrder);
-    }
-    Outcome::Done(lines)
+    Ok(shape)
 }
 
-// A column batch: lines of the first pass, from the residuals into the scratch buffer.
-pub fn column_batch(
-    ticket: Ticket,
-    residuals: &[i32],
-    scratch: &mut [i32],
-    start: usize,
-    lines: usize,
-) -> Batched
-    ensures { gives result scratch.new ≡ batch ticket (batch_of false start lines) residuals.now scratch.old }
+// A batch: source is the residuals and target the scratch buffer for columns, the scratch buffer and the output for rows.
+#[tactic(auto, unfolding(crate::specs::Batch::batch))]
+pub fn run(ticket: Ticket, b: Batch, source: &[i32], target: &mut [i32]) -> Batched
+    ensures { gives result target.new ≡ batch ticket b source.now target.old }
 {
-    let outcome = batch_outcome(
-        false,
-        ticket,
-        false,
-        start,
-        lines,
-        residuals.len(),
-        scratch.len(),
-    );
-    let Outcome::Done(_) = outcome else {
-        return Batched { ticket, outcome };
-    };
-    let w = ticket.w;
-    let h = ticket.h;
-    block::column_lines(w, h, ticket.column_kind, start, lines, residuals, scratch);
-    let after = with_batch(ticket, false, start, lines);
-    Batched {
-        ticket: after,
-        outcome,
+    match admit(false, ticket, b, source.len(), target.len()) {
+        Ok(shape) => {
+            shape.lines(b.row, b.start, b.lines, source, target);
+            Batched {
+                ticket: with_batch(ticket, b),
+                outcome: Ok(b.lines),
+            }
+        }
+        Err(why) => Batched {
+            ticket,
+            outcome: Err(why),
+        },
     }
 }
 
-// A row batch: lines of the second pass, scaled where a block is, from the scratch buffer into the output.
-pub fn row_batch(
-    ticket: Ticket,
-    scratch: &[i32],
-    output: &mut [i32],
-    start: usize,
-    lines: usize,
-) -> Batched
-    ensures { gives result output.new ≡ batch ticket (batch_of true start lines) scratch.now output.old }
-{
-    let outcome = batch_outcome(
-        false,
-        ticket,
-        true,
-        start,
-        lines,
-        scratch.len(),
-        output.len(),
-    );
-    let Outcome::Done(_) = outcome else {
-        return Batched { ticket, outcome };
-    };
-    let w = ticket.w;
-    let h = ticket.h;
-    block::row_lines(w, h, ticket.row_kind, start, lines, scratch, output);
-    let after = with_batch(ticket, true, start, lines);
-    Batched {
-        ticket: after,
-        outcome,
-    }
-}
-
-// A batch of either kind: a row batch or a column batch.
+// A batch of a block's own buffers.
+#[tactic(auto, unfolding(crate::specs::Run::step))]
 fn any_batch(
     ticket: Ticket,
-    row: bool,
+    b: Batch,
     residuals: &[i32],
     scratch: &mut [i32],
     output: &mut [i32],
-    start: usize,
-    lines: usize,
 ) -> Batched
-    ensures { step_given result scratch.new output.new
-        ≡ step residuals.now (state_at ticket scratch.old output.old) (batch_of row start lines) }
+    ensures { step_given result scratch.new output.new ≡ step residuals.now (state_at ticket scratch.old output.old) b }
 {
-    if row {
-        return row_batch(ticket, scratch, output, start, lines);
+    if b.row {
+        run(ticket, b, scratch, output)
+    } else {
+        run(ticket, b, residuals, scratch)
     }
-    column_batch(ticket, residuals, scratch, start, lines)
 }
 
 // Whether each kind of batch is 0 or 1.
 fn are_kinds(kinds: &[u32]) -> bool
     ensures { result ≡ are_kinds kinds.now }
 {
-    let mut i = 0;
-    while i < kinds.len() {
-        if 1 < kinds[i] {
-            return false;
-        }
-        i += 1;
-    }
-    true
+    kinds.iter().all(|kind| *kind <= 1)
 }
 
 // The outcome of a lent list: the lowest number that applies, or how many batches it has.
+#[tactic(auto, unfolding(crate::specs::Play::play_answer, answer::specs::Answer::lowest))]
 fn play_outcome(kinds: &[u32], starts: usize, lines: usize, room: usize) -> Outcome
-    ensures { told result ≡ play_answer kinds.now starts lines room }
+    ensures answer { told result ≡ play_answer kinds.now starts lines room }
+    ensures within { IfOk result (λ n. (n ≡ length kinds.now) × (n ≤ starts) × (n ≤ lines) × (n ≤ room)) }
 {
     if !are_kinds(kinds) {
-        return Outcome::Refused(Refusal::BadKind);
+        return Err(Refusal::BadKind);
     }
     let n = kinds.len();
     if (starts < n) | ((lines < n) | (room < n)) {
-        return Outcome::Refused(Refusal::ShortBuffer);
+        return Err(Refusal::ShortBuffer);
     }
-    Outcome::Done(n)
+    Ok(n)
 }
 
 // Plays a lent list of batches on a ticket: batch i has lines[i] lines from starts[i] on, columns where kinds[i] is 0 and rows where it is
 // 1. Each answer goes to `answered` as one signed number, and the whole list answers how many batches it has.
+// Batches are lent as numbers, not as a slice of Batch: what is promised says which numbers are refused.
 pub fn play(
     ticket: Ticket,
     residuals: &[i32],
@@ -314,30 +301,28 @@ pub fn play(
         kinds.now starts.now lines.now answered.old
         (play_given result scratch.new output.new answered.new) }
 {
-    let outcome = play_outcome(kinds, starts.len(), lines.len(), answered.len());
-    let Outcome::Done(n) = outcome else {
-        return Batched { ticket, outcome };
+    let n = match play_outcome(kinds, starts.len(), lines.len(), answered.len()) {
+        Ok(n) => n,
+        Err(why) => {
+            return Batched {
+                ticket,
+                outcome: Err(why),
+            };
+        }
     };
     let mut current = ticket;
-    let mut i = 0;
-    while i < n {
-        let b = any_batch(
-            current,
-            kinds[i] == 1,
-            residuals,
-            scratch,
-            output,
-            starts[i],
-            lines[i],
-        );
-        let o = b.outcome;
-        answered[i] = answer::signed(o);
-        let next = b.ticket;
-        current = next;
-        i += 1;
+    for i in 0..n {
+        let b = Batch {
+            row: kinds[i] == 1,
+            start: starts[i],
+            lines: lines[i],
+        };
+        let done = any_batch(current, b, residuals, scratch, output);
+        answered[i] = answer::signed(done.outcome);
+        current = done.ticket;
     }
     Batched {
         ticket: current,
-        outcome,
+        outcome: Ok(n),
     }
 }

@@ -1,14 +1,14 @@
 // The calls on a plane as the C interface makes them: the record is given and comes back by value, and the answer is one signed number.
 #![tactic(auto)]
 
-ghost use Rattle.std.specs.Prelude.{true, false, length};
+ghost use Rattle.std.specs.Prelude.{◌≡◌, true, false, T, length};
+ghost use Rattle.answer.specs.Answer.{told, is_small, signed_of};
 ghost use Rattle.tickets.specs.Batch.{batch_of};
 ghost use Rattle.plane.specs.Plane.{site_of, new_tile, opening, closing};
 ghost use Rattle.plane.specs.Batch.{columns_in, rows_in};
 ghost use Rattle.tiles.specs.Tiles.{SignedMaking, SignedPlanned, SignedKept};
 
-use answer::Outcome;
-use plane::{Plane, Site};
+use plane::{Plane, Planed, Site};
 
 // What a call gives back: the record, and its answer as one signed number.
 #[derive(Drop)]
@@ -17,21 +17,41 @@ pub struct Lent {
     pub number: i64,
 }
 
+impl Lent {
+    #[inline(always)]
+    fn new(done: Planed) -> Lent
+        requires { T (is_small (told done.outcome)) }
+        ensures { (result.number ≡ signed_of (told done.outcome)) × (result.plane ≡ done.plane) }
+    {
+        Lent {
+            plane: done.plane,
+            number: answer::signed(done.outcome),
+        }
+    }
+
+    // Stores the record where a caller keeps it. The answer.
+    #[inline(always)]
+    pub fn store(self, plane: &mut Plane) -> i64
+        ensures { (result ≡ self.number) × (plane.new ≡ self.plane) }
+    {
+        *plane = self.plane;
+        self.number
+    }
+}
+
 // A plane of these sides; where that is refused, the record is the one given.
+#[tactic(auto, unfolding(plane::specs::Plane::making), using(plane::proofs::Small::making_small))]
 pub fn make(given: Plane, w: usize, h: usize) -> Lent
     ensures { SignedMaking w h given result.number result.plane }
 {
-    let done = plane::make_plane(w, h);
-    let outcome = done.outcome;
-    let number = answer::signed(outcome);
-    let plane = done.plane;
-    let Outcome::Done(_) = outcome else {
-        return Lent {
+    let made = plane::make_plane(w, h);
+    match made.outcome {
+        Ok(_) => Lent::new(made),
+        Err(why) => Lent::new(Planed {
             plane: given,
-            number,
-        };
-    };
-    Lent { plane, number }
+            outcome: Err(why),
+        }),
+    }
 }
 
 pub fn open_tile(
@@ -59,21 +79,13 @@ pub fn open_tile(
         column_kind,
         row_kind,
     };
-    let done = plane::open_tile(given, site, residuals, scratch, output);
-    let outcome = done.outcome;
-    let number = answer::signed(outcome);
-    let plane = done.plane;
-    Lent { plane, number }
+    Lent::new(plane::open_tile(given, site, residuals, scratch, output))
 }
 
 pub fn close_tile(given: Plane, room: u32, tile: usize) -> Lent
     ensures { SignedPlanned (closing given room tile) result.number result.plane }
 {
-    let done = plane::close_tile(given, room, tile);
-    let outcome = done.outcome;
-    let number = answer::signed(outcome);
-    let plane = done.plane;
-    Lent { plane, number }
+    Lent::new(plane::close_tile(given, room, tile))
 }
 
 pub fn columns(
@@ -89,10 +101,7 @@ pub fn columns(
         result.number result.plane scratch.new }
 {
     let done = plane::tile_columns(given, room, tile, residuals, scratch, start, lines);
-    let outcome = done.outcome;
-    let number = answer::signed(outcome);
-    let plane = done.plane;
-    Lent { plane, number }
+    Lent::new(done)
 }
 
 pub fn rows(
@@ -108,8 +117,5 @@ pub fn rows(
         result.number result.plane output.new }
 {
     let done = plane::tile_rows(given, room, tile, scratch, output, start, lines);
-    let outcome = done.outcome;
-    let number = answer::signed(outcome);
-    let plane = done.plane;
-    Lent { plane, number }
+    Lent::new(done)
 }

@@ -1,11 +1,11 @@
 -- The totals of a record file ("Reel report for the catalogue").
-use Rattle.std.specs.Prelude.{Bool, true, cond, List, ◌⊎◌, ◌≡◌, ℕ, ◌*◌, ◌^◌, ◌≤◌, leb, nat_abs, length}
+use Rattle.std.specs.Prelude.{Bool, true, cond, List, ◌⊎◌, ◌≡◌, ℕ, ◌*◌, ◌^◌, ◌≤◌, leb, nat_abs, length, Result, Ok, Err}
 use Rattle.laws.specs.Sum.{sum_ℕ, sum_of}
 use Rattle.answer.specs.Answer.{number_of}
+use Rattle.answer.specs.declared.Refusal.{Refusal}
 use Rattle.format.specs.Pieces.{Bytes, standing, stands}
 use Rattle.format.specs.Format.{Block, level_of, bytes_of, are_blocks, Found, blocks, damage, parse}
-use Rattle.totals.specs.declared.Report.{Report}
-use Rattle.totals.specs.declared.Report.TheVariants.{Of, Refused}
+use Rattle.totals.specs.declared.Totals.{Totals}
 
 -- ---- the totals of a list of blocks
 
@@ -34,9 +34,9 @@ pub data Reported : Type 0 where
   totals : ℕ → ℕ → ℕ → Reported
   refused : ℕ → Reported
 
-abbrev pub reported : Report → Reported
-reported (Of t) = totals t.blocks t.levels t.magnitude
-reported (Refused why) = refused (number_of why)
+abbrev pub reported : Result Totals Refusal → Reported
+reported (Ok t) = totals t.blocks t.levels t.magnitude
+reported (Err why) = refused (number_of why)
 
 -- "Each total equals the total over the list of blocks that the reader gives", or the reader's refusal
 abbrev pub totals_of : Found → Reported

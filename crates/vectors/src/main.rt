@@ -12,10 +12,10 @@ mod transforms;
 
 use std::io::Read;
 use std::{fs, io};
-use text::print_text;
+use text::{Number, Words};
 
 // Whether the library gives what the record says, and the record says nothing else.
-fn is_same(kind: u64, numbers: &[u64]) -> bool {
+fn is_same(kind: u64, numbers: &[Number]) -> bool {
     match kind {
         1 => transforms::kernel(numbers),
         2 => transforms::shifts(numbers),
@@ -30,36 +30,35 @@ fn is_same(kind: u64, numbers: &[u64]) -> bool {
     }
 }
 
-fn print_differs(rt: &impl Print, count: u64, kind: u64) -> io::Result<()> {
-    print_text(rt, b"record ")?;
-    text::print_in_column(rt, false, count, 0)?;
-    print_text(rt, b", of kind ")?;
-    text::print_in_column(rt, false, kind, 0)?;
-    print_text(rt, b", differs or can't be read\n")
-}
-
-fn print_count(rt: &impl Print, count: u64) -> io::Result<()> {
-    text::print_in_column(rt, false, count, 0)?;
-    print_text(rt, b" answers of the Rust, no difference\n")
+// The digits that a word begins with, behind a minus or none, as a number: of a kind that is no number, they are what is told.
+fn kind_of(word: &[u8]) -> u64 {
+    let digits = word.strip_prefix(b"-").unwrap_or(word);
+    let end = digits
+        .iter()
+        .position(|b| !b.is_ascii_digit())
+        .unwrap_or(digits.len());
+    Number::parse(&digits[..end]).map_or(0, |number| number.size)
 }
 
 // Record by record, up to the end or the first difference.
 fn replay(rt: &impl Print, list: &[u8]) -> io::Result<()> {
-    let mut numbers = [0u64; 4608];
-    let mut at = 0;
-    let mut count: u64 = 0;
-    while count < 65536 {
-        if text::is_end(list, at) {
-            return print_count(rt, count);
+    let mut words = Words { left: list };
+    let mut numbers = [Number::ZERO; 4608];
+    for count in 0..65536u64 {
+        let Some(word) = words.next() else {
+            return println!(rt; "{count} answers of the Rust, no difference");
+        };
+        let kind = kind_of(word);
+        let same = match (Number::parse(word), record::read(&mut words, &mut numbers)) {
+            (Some(_), Some(count)) => is_same(kind, &numbers[..count]),
+            _ => false,
+        };
+        if !same {
+            let record = count + 1;
+            return println!(rt; "record {record}, of kind {kind}, differs or can't be read");
         }
-        let next = record::read(list, at, &mut numbers);
-        count += 1;
-        if !(next.ok && is_same(next.kind, &numbers[..next.count])) {
-            return print_differs(rt, count, next.kind);
-        }
-        at = next.end;
     }
-    print_text(rt, b"the list has more than 65536 records\n")
+    println!(rt; "the list has more than 65536 records")
 }
 
 // Replays what the source has, as much as list has room for.

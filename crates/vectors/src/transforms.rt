@@ -3,6 +3,8 @@ ghost use Rattle.std.specs.Prelude.{◌≤◌, length};
 
 use super::record;
 use answer::Outcome;
+use sizes::Size;
+use text::Number;
 
 // An element of a buffer; 0 past its end.
 fn at(buffer: &[i32], place: usize) -> i32 {
@@ -17,24 +19,23 @@ fn at(buffer: &[i32], place: usize) -> i32 {
 fn fill_diagonal(n: usize, buffer: &mut [i32])
     requires { n ≤ 1024 }
 {
-    let mut place: usize = 0;
-    while place < buffer.len() {
-        buffer[place] = 2;
-        place += n + 1;
+    for row in buffer.chunks_mut(n + 1) {
+        if let Some(first) = row.first_mut() {
+            *first = 2;
+        }
     }
 }
 
 // A kernel shows in a pass: line k has 2 at sample k alone, and shift 1 halves what that makes.
-pub fn kernel(numbers: &[u64]) -> bool {
+pub fn kernel(numbers: &[Number]) -> bool {
     let side = record::count(numbers, 1);
     let mut src = [0i32; 1024];
     let mut dst = [0i32; 1024];
     fill_diagonal(side, &mut src);
-    let outcome = passes::pass(side, record::unsigned(numbers, 0), 1, side, &src, &mut dst);
-    let Outcome::Done(n) = outcome else {
-        return false;
-    };
-    is_turned(numbers, side, n, &dst)
+    match passes::pass(side, record::unsigned(numbers, 0), 1, side, &src, &mut dst) {
+        Ok(n) => is_turned(numbers, side, n, &dst),
+        Err(_) => false,
+    }
 }
 
 // Place i of a table of n columns, row by row, is this place of it column by column, where it has as many rows.
@@ -45,7 +46,7 @@ fn turned(i: usize, n: usize) -> usize
 }
 
 // Whether n numbers are a kernel's, sample after sample, where the record has them frequency after frequency.
-fn is_turned(numbers: &[u64], side: usize, n: usize, got: &[i32]) -> bool
+fn is_turned(numbers: &[Number], side: usize, n: usize, got: &[i32]) -> bool
     requires { side ≤ 1024 }
 {
     if side == 0 {
@@ -57,38 +58,33 @@ fn is_turned(numbers: &[u64], side: usize, n: usize, got: &[i32]) -> bool
     if numbers.len() != 2 + n {
         return false;
     }
-    let mut i: usize = 0;
-    while i < n {
+    for i in 0..n {
         if at(got, turned(i, side)) != record::signed(numbers, 2 + i) {
             return false;
         }
-        i += 1;
     }
     true
 }
 
-pub fn shifts(numbers: &[u64]) -> bool {
-    let w = record::count(numbers, 0);
-    let h = record::count(numbers, 1);
-    if !sizes::is_side(w) {
-        return false;
+pub fn shifts(numbers: &[Number]) -> bool {
+    match Size::new(record::count(numbers, 0), record::count(numbers, 1)) {
+        Ok(size) => {
+            let shifts = size.shifts();
+            (numbers.len() == 4)
+                & (shifts.first.bits == record::unsigned(numbers, 2))
+                & (shifts.second.bits == record::unsigned(numbers, 3))
+        }
+        Err(_) => false,
     }
-    if !sizes::is_side(h) {
-        return false;
-    }
-    let shifts = sizes::fwd_shifts(w, h);
-    (numbers.len() == 4)
-        & (shifts.first == record::unsigned(numbers, 2))
-        & (shifts.second == record::unsigned(numbers, 3))
 }
 
-pub fn scale(numbers: &[u64]) -> bool {
+pub fn scale(numbers: &[Number]) -> bool {
     let outcome = sizes::dc_tx_scale(record::count(numbers, 0), record::count(numbers, 1));
     (numbers.len() == 3) & record::is_answer(numbers, 2, outcome)
 }
 
 // The call of a record, on buffers of its lengths.
-fn call_pass(numbers: &[u64], src: &[i32], dst: &mut [i32]) -> Outcome
+fn call_pass(numbers: &[Number], src: &[i32], dst: &mut [i32]) -> Outcome
     requires { (1024 ≤ length src.now) × (1024 ≤ length dst.old) }
 {
     let n = record::count(numbers, 4);
@@ -103,7 +99,7 @@ fn call_pass(numbers: &[u64], src: &[i32], dst: &mut [i32]) -> Outcome
     )
 }
 
-pub fn pass(numbers: &[u64]) -> bool {
+pub fn pass(numbers: &[Number]) -> bool {
     let mut src = [0i32; 1024];
     let mut dst = [0i32; 1024];
     record::load(numbers, 5, &mut src);
@@ -116,7 +112,7 @@ pub fn pass(numbers: &[u64]) -> bool {
 }
 
 fn call_block(
-    numbers: &[u64],
+    numbers: &[Number],
     residuals: &[i32],
     scratch: &mut [i32],
     output: &mut [i32],
@@ -137,7 +133,7 @@ fn call_block(
     )
 }
 
-pub fn block(numbers: &[u64]) -> bool {
+pub fn block(numbers: &[Number]) -> bool {
     let mut residuals = [0i32; 1024];
     let mut scratch = [0i32; 1024];
     let mut output = [0i32; 1024];
@@ -151,7 +147,7 @@ pub fn block(numbers: &[u64]) -> bool {
         & record::is_same(numbers, answer + 1 + written, written, &output)
 }
 
-fn call_wht(numbers: &[u64], residuals: &[i32], output: &mut [i32]) -> Outcome
+fn call_wht(numbers: &[Number], residuals: &[i32], output: &mut [i32]) -> Outcome
     requires { (1024 ≤ length residuals.now) × (1024 ≤ length output.old) }
 {
     let n = record::count(numbers, 0);
@@ -159,7 +155,7 @@ fn call_wht(numbers: &[u64], residuals: &[i32], output: &mut [i32]) -> Outcome
     wht::fwht4x4(&residuals[..n], &mut output[..room])
 }
 
-pub fn wht(numbers: &[u64]) -> bool {
+pub fn wht(numbers: &[Number]) -> bool {
     let mut residuals = [0i32; 1024];
     let mut output = [0i32; 1024];
     record::load(numbers, 1, &mut residuals);

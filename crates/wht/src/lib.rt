@@ -26,16 +26,12 @@ fn pass(src: &[i32], dst: &mut [i32])
     requires sized { Sized (2 ^ 20) src.now }
     ensures { dst.new ≡ laid dst.old 0 16 (turned src.now) }
 {
-    let mut j = 0;
-    while j < 4 {
+    for j in 0..4 {
         let y = line(src[j], src[j + 4], src[j + 8], src[j + 12]);
-        let mut f = 0;
-        while f < 4 {
+        for f in 0..4 {
             let at = j * 4 + f;
             dst[at] = y[f];
-            f += 1;
         }
-        j += 1;
     }
 }
 
@@ -50,16 +46,17 @@ fn run(residuals: &[i32], output: &mut [i32])
 }
 
 // Whether the call is refused, and its answer.
+#[tactic(auto, unfolding(crate::specs::Wht::wht_answer, answer::specs::Answer::lowest))]
 fn admit(residuals: &[i32], room: usize) -> Outcome
     ensures { told result ≡ wht_answer residuals.now room }
 {
     if (residuals.len() < 16) | (room < 16) {
-        return Outcome::Refused(Refusal::ShortBuffer);
+        return Err(Refusal::ShortBuffer);
     }
-    if !residual::residuals_ok(16, residuals) {
-        return Outcome::Refused(Refusal::ResidualRange);
+    if !residual::residuals_ok(&residuals[..16]) {
+        return Err(Refusal::ResidualRange);
     }
-    Outcome::Done(16)
+    Ok(16)
 }
 
 // The WHT of the first 16 residuals, a 4×4 block, in the first 16 numbers of output.
@@ -67,10 +64,7 @@ pub fn fwht4x4(residuals: &[i32], output: &mut [i32]) -> Outcome
     ensures result_value { told result ≡ wht_answer residuals.now (length output.old) }
     ensures output_after { output.new ≡ wht_after residuals.now output.old }
 {
-    let answer = admit(residuals, output.len());
-    let Outcome::Done(_) = answer else {
-        return answer;
-    };
+    let n = admit(residuals, output.len())?;
     run(residuals, output);
-    answer
+    Ok(n)
 }

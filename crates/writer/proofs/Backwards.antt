@@ -3,7 +3,6 @@ use mathlib.Core.Bool.{Bool, true, false, cond}
 use mathlib.Core.List.{List, [], ◌++◌, append_assoc}
 use mathlib.Core.Path.{◌≡◌, refl, sym, ap, ◌∙◌}
 use Prim.Native.Nat.{ℕ, suc, ◌+◌, ◌-◌, ◌*◌, ◌≤◌, ◌<◌}
-use native.Mathlib.Nat.{add_assoc}
 use native.Mathlib.Omega.{arith}
 use lib.IntN.{ℤ}
 use lib.ListN.{length, take, drop, length-append}
@@ -12,7 +11,6 @@ use Rattle.laws.proofs.Pasted.{pasted_before, pasted_from, pasted_behind}
 use Rattle.laws.specs.Store.{pasted}
 use Rattle.format.proofs.Listed.{listed_split, listed_same}
 use Rattle.format.specs.Pieces.{four, word_of, stands, bytes_for, listed}
-use Rattle.writer.specs.Writing.{level_from}
 
 -- of n levels those from i on are put before end of d: out, where they begin at place to. Four bytes before them may be spoilt
 pub record Put (level : ℕ → ℤ) (n : ℕ) (d : List ℕ) (end i : ℕ) (out : List ℕ) (to : ℕ) : Type 0 where
@@ -46,14 +44,9 @@ pub one_more : (j : ℕ) (level : ℕ → ℤ) → 0 < j → listed j level ≡ 
 unfolding listed
 one_more j level h = let e : j ≡ suc (j - 1) = omega arith in ap (λ (k : ℕ). listed k level) e
 
-pub some_more : (j n : ℕ) (levels : List ℤ) (place : ℕ) → n ≤ j
-    → listed j (level_from levels place) ≡ listed (j - n) (level_from levels place) ++ listed n (level_from levels (place + (j - n)))
-some_more j n levels place h =
-    let e : j ≡ j - n + n = omega arith in
-    let level = level_from levels place in
-    ap (λ (k : ℕ). listed k level) e ∙ listed_split (j - n) n level
-    ∙ ap (λ (l : List ℕ). listed (j - n) level ++ l)
-    (listed_same n (λ i. level (j - n + i)) (level_from levels (place + (j - n))) (λ p b. rw (add_assoc place (j - n) p)))
+pub some_more : (j n : ℕ) (level part : ℕ → ℤ) → ((i : ℕ) → i < n → level (j + i) ≡ part i) → listed (j + n) level ≡ listed j level ++ listed n part
+some_more j n level part same =
+    listed_split j n level ∙ ap (λ (l : List ℕ). listed j level ++ l) (listed_same n (λ i. level (j + i)) part same)
 
 pub listed_nil : (level : ℕ → ℤ) → listed 0 level ≡ []
 unfolding listed

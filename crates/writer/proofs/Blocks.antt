@@ -1,18 +1,21 @@
 -- The blocks that lent buffers hold: their records and their bytes, one block after the other. Assumes nothing.
 use mathlib.Core.Bool.{true, false, not, ◌||◌, or-true}
-use mathlib.Core.List.{List, [], ◌∷◌, ◌++◌}
+use mathlib.Core.List.{List, [], ◌∷◌, ◌++◌, append-nil}
 use mathlib.Core.Path.{◌≡◌, refl, sym, ap, ap₂, ◌∙◌}
 use Prim.Native.Nat.{ℕ, zero, suc, ◌+◌, ◌-◌, ◌*◌, ◌/◌, ◌%◌, ◌≤◌, ◌<◌}
+use native.Mathlib.Nat.{zero-add}
 use native.Mathlib.Numerals.{add-one}
+use borrow.Rule.Slice.PartMut.{put_mid}
+use Rattle.laws.proofs.Part.{rest_is}
 use native.Mathlib.Omega.{arith}
 use borrow.Author.Tests.{lt-ltb, le-ltb, ltb-false, not-true}
 use lib.Dec.{ltb}
 use lib.IntN.{ℤ, pos}
-use lib.ListN.{length, get_or, set, take, drop, length-append}
-use lib.Seq.{get_or-take, get_or-drop}
+use lib.ListN.{length, get_or, set, take, drop, length-append, length-drop, drop_of_length-le}
+use lib.Seq.{get_or-take, get_or-drop, length-take-le, drop-drop}
 use Rattle.laws.proofs.Bool.{neither}
 use Rattle.laws.proofs.Every.{every_each}
-use Rattle.laws.proofs.Pasted.{pasted_set, pasted_both, pasted_first}
+use Rattle.laws.proofs.Pasted.{pasted_set, pasted_both, pasted_first, length_pasted, spliced}
 use Rattle.laws.proofs.Sum.{sum_within}
 use Rattle.laws.specs.Store.{tab, over, pasted}
 use Rattle.laws.specs.Sum.{sum_ℕ}
@@ -20,7 +23,7 @@ use Rattle.laws.specs.Table.{every}
 use Rattle.sizes.specs.Size.{is_side}
 use Rattle.format.specs.Pieces.{four, side_byte, map_of, listed}
 use Rattle.format.specs.Format.{level_of, record_of, bytes_of}
-use Rattle.writer.specs.Writing.{level_from, block_from, places_at, place_at, block_at, blocks_in, length_to}
+use Rattle.writer.specs.Writing.{level_at, block_of, level_from, block_from, places_at, place_at, block_at, blocks_in, length_to}
 use Rattle.format.proofs.Bits.{map_same, map_length}
 use Rattle.format.proofs.Listed.{listed_same}
 use Rattle.format.proofs.Parse.{bytes_more}
@@ -40,6 +43,39 @@ place_step sides k = ap (λ (n : ℕ). sum_ℕ n (places_at sides)) (add-one k)
 pub place_within : (sides : List ℕ) (n k : ℕ) → k < n → place_at sides k + places_at sides k ≤ place_at sides n
 unfolding place_at
 place_within sides n k h = sum_within n (places_at sides) k h
+
+-- ---- a part of the levels, as it is lent on
+
+module _ (levels : List ℤ) (place m n : ℕ) (e : m ≡ n) (room : place + n ≤ length levels) where
+  pub part_long : length (take m (drop place levels)) ≡ n
+  part_long = length-take-le m (drop place levels) (omega (arith, length-drop place levels)) ∙ e
+
+  pub part_at : (p : ℕ) → p < n → level_at (take m (drop place levels)) p ≡ level_from levels place p
+  part_at p b = get_or-take m (drop place levels) p (pos 0) (omega arith) ∙ get_or-drop place levels p (pos 0)
+
+  pub part_listed : listed (length (take m (drop place levels))) (level_at (take m (drop place levels))) ≡ listed n (level_from levels place)
+  part_listed =
+      ap (λ (k : ℕ). listed k (level_at (take m (drop place levels)))) part_long
+      ∙ listed_same n (level_at (take m (drop place levels))) (level_from levels place)
+      part_at
+
+-- a block whose levels are such a part
+pub block_part : (number w h : ℕ) (levels : List ℤ) (place m : ℕ) → m ≡ w * h → block_of number w h (take m (drop place levels)) ≡ block_from number w h levels place
+unfolding block_from
+block_part number w h levels place m e = ap (λ (k : ℕ). block_of number w h (take k (drop place levels))) e
+
+-- bytes put at the front of the rest of a buffer
+pub rest_put : (out rec : List ℕ) (at : ℕ) {new : List ℕ} → at + length rec ≤ length out → new ≡ over rec (take (length out - at) (drop at out))
+    → put_mid at (length out - at) out new ≡ pasted out at rec
+unfolding pasted
+rest_put out rec at {new} room e =
+    let t = drop at out in
+    let all = over rec t in
+    let long : at + length all ≡ length out = omega (arith, length_pasted t 0 rec (omega (arith, length-drop at out)), length-drop at out) in
+    ap (λ (l : List ℕ). put_mid at (length out - at) out l) (e ∙ ap (over rec) (rest_is out at))
+    ∙ spliced out all at (length out) (sym long)
+    ∙ ap (λ (r : List ℕ). take at out ++ (all ++ r)) (drop_of_length-le out (omega (arith, long)))
+    ∙ ap (λ (r : List ℕ). take at out ++ r) (append-nil all ∙ ap (λ (k : ℕ). rec ++ drop k t) (zero-add (length rec)) ∙ ap (λ (r : List ℕ). rec ++ r) (drop-drop (length rec) at out))
 
 -- ---- a block's record, with the levels where they lie
 
@@ -62,6 +98,16 @@ module _ (number w h : ℕ) (levels : List ℤ) (place : ℕ) where
   from_length =
       record_length (block_from number w h levels place)
       ∙ ap (λ (l : List ℕ). 5 + w * h / 8 + length l) (listed_same (w * h) (level_of (block_from number w h levels place)) (level_from levels place) level_from_lem)
+
+-- the same, with the levels of a buffer
+module _ (number w h : ℕ) (levels : List ℤ) (long : length levels ≡ w * h) where
+  pub record_is : record_of (block_of number w h levels)
+      ≡ four number ++ ((side_byte w h ∷ []) ++ (map_of (length levels) (level_at levels) ++ listed (length levels) (level_at levels)))
+  unfolding record_of
+  record_is = rw long refl
+
+  pub of_length : length (record_of (block_of number w h levels)) ≡ 5 + length levels / 8 + length (listed (length levels) (level_at levels))
+  of_length = rw long (record_length (block_of number w h levels))
 
 -- ---- the bytes of the first blocks, one block more
 
@@ -124,31 +170,26 @@ over_block numbers sides levels d k at e a h =
     ∙ ap (λ (l : List ℕ). over l d) (sym (bytes_step numbers sides levels k))
 
 -- ---- a record, written with its levels first: d, then with the levels, with the number, with the side byte, and with the map
-module _ (d : List ℕ) (at number w h : ℕ) (levels : List ℤ) (place : ℕ) (eight : (w * h) % 8 ≡ 0)
-    (room : at + length (record_of (block_from number w h levels place)) ≤ length d) where
-  pub room_of_lem : at + (5 + w * h / 8 + length (listed (w * h) (level_from levels place))) ≤ length d
-  room_of_lem = omega (arith, from_length number w h levels place)
+module _ (d : List ℕ) (number w h : ℕ) (levels : List ℤ) (long : length levels ≡ w * h) (room : length (record_of (block_of number w h levels)) ≤ length d) where
+  pub room_of_lem : 5 + length levels / 8 + length (listed (length levels) (level_at levels)) ≤ length d
+  room_of_lem = omega (arith, of_length number w h levels long)
 
-  module _ (d₁ : List ℕ) (long : length d₁ ≡ length d) {d₂ : List ℕ} {side : ℕ} (e₂ : d₂ ≡ pasted d₁ at (four number)) (s : side ≡ side_byte w h) where
-    sided : set d₂ (at + 4) side ≡ pasted d₁ at (four number ++ (side_byte w h ∷ []))
-    sided =
-        ap₂ (λ (x : List ℕ) (v : ℕ). set x (at + 4) v) e₂ s
-        ∙ pasted_set d₁ at (at + 4) (four number) (side_byte w h) (omega (arith, room_of_lem)) refl
-
-    pub paste_record : {d₃ : List ℕ} (list : ℕ) {end : ℕ} → list + length (listed (w * h) (level_from levels place)) ≡ end
-        → end ≡ at + 5 + w * h / 8 + length (listed (w * h) (level_from levels place)) → take (list - 4) d₁ ≡ take (list - 4) d
-        → drop list d₁ ≡ listed (w * h) (level_from levels place) ++ drop end d
-        → d₃ ≡ pasted (set d₂ (at + 4) side) (at + 5) (map_of (w * h) (level_from levels place))
-        → d₃ ≡ pasted d at (record_of (block_from number w h levels place))
-    paste_record list ends is kept put e₃ =
-        let map = map_of (w * h) (level_from levels place) in
-        let head = four number ++ (side_byte w h ∷ []) ++ map in
-        let head_long : length head ≡ 5 + w * h / 8 = omega (arith, map_length (w * h) (level_from levels place)) in
-        e₃ ∙ ap (λ (x : List ℕ). pasted x (at + 5) map) sided
-        ∙ pasted_both d₁ at (at + 5) (four number ++ (side_byte w h ∷ [])) map (omega (arith, room_of_lem)) refl
-        ∙ pasted_first d d₁ at (list - 4) list head (listed (w * h) (level_from levels place)) (omega arith) (omega arith) kept
-        (put ∙ ap (λ (k : ℕ). listed (w * h) (level_from levels place) ++ drop k d) (sym ends))
-        ∙ ap (pasted d at) (sym (record_from number w h levels place eight))
+  pub paste_record : (d₁ : List ℕ) → length d₁ ≡ length d → {d₂ d₃ : List ℕ} {side : ℕ} → d₂ ≡ over (four number) d₁ → side ≡ side_byte w h
+      → (list : ℕ) {end : ℕ} → list + length (listed (length levels) (level_at levels)) ≡ end
+      → end ≡ 5 + length levels / 8 + length (listed (length levels) (level_at levels)) → take (list - 4) d₁ ≡ take (list - 4) d
+      → drop list d₁ ≡ listed (length levels) (level_at levels) ++ drop end d
+      → d₃ ≡ pasted (set d₂ 4 side) 5 (map_of (length levels) (level_at levels))
+      → d₃ ≡ over (record_of (block_of number w h levels)) d
+  paste_record d₁ same {d₂} {d₃} {side} e₂ s list ends is kept put e₃ =
+      let map = map_of (length levels) (level_at levels) in
+      let head = four number ++ (side_byte w h ∷ []) ++ map in
+      let head_long : length head ≡ 5 + length levels / 8 = omega (arith, map_length (length levels) (level_at levels)) in
+      let sided = ap₂ (λ (x : List ℕ) (v : ℕ). set x 4 v) e₂ s ∙ pasted_set d₁ 0 4 (four number) (side_byte w h) (omega (arith, room_of_lem)) refl in
+      e₃ ∙ ap (λ (x : List ℕ). pasted x 5 map) sided
+      ∙ pasted_both d₁ 0 5 (four number ++ (side_byte w h ∷ [])) map (omega (arith, room_of_lem)) refl
+      ∙ pasted_first d d₁ 0 (list - 4) list head (listed (length levels) (level_at levels)) (omega arith) (omega (arith, head_long)) kept
+      (put ∙ ap (λ (k : ℕ). listed (length levels) (level_at levels) ++ drop k d) (sym ends))
+      ∙ ap (λ (l : List ℕ). over l d) (sym (record_is number w h levels long))
 
 -- ---- the sides of block k
 pub sides_at : (count : ℕ) (sides : List ℕ) → every (2 * count) (λ i. is_side (get_or sides i 0)) ≡ true → (k : ℕ) → k < count

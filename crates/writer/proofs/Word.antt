@@ -1,15 +1,15 @@
 -- What the code asks of a level: whether it is zero, as a byte, and whether it is near. Assumes nothing.
-use mathlib.Core.Bool.{Bool, true, false, cond, not, ◌&&◌, and-true}
+use mathlib.Core.Bool.{Bool, true, false, cond, not, and-true}
 use mathlib.Core.Path.{◌≡◌, refl, sym, ap, ◌∙◌}
 use Prim.Native.Nat.{suc, ◌-◌, ◌^◌, ◌≤◌, ◌<◌}
 use native.Mathlib.Omega.{arith}
 use borrow.Author.Tests.{ne_eqb}
 use lib.Dec.{eqb, leb, leb-suc-suc}
 use lib.IntN.{ℤ, pos, negsuc}
-use lib.Signed.{le_z, mag}
-use mir.Facts.{to_z-of_z}
+use lib.Signed.{mag}
 use mir.Syntax.{w32}
-use mir.Val.{of_z, to_z, SFits, bool_byte}
+use mir.Val.{of_z, bool_byte}
+use Rattle.fixed.specs.Limit.{is_within}
 use Rattle.format.specs.Pieces.{is_near, stands}
 
 -- ---- a bit as a byte
@@ -30,9 +30,7 @@ pub bit_byte : (l : ℤ) → mag l < 2 ^ 31 → bool_byte (not (eqb (of_z w32 l)
 bit_byte l h = ap bool_byte (nonzero l h) ∙ byte_is (stands l)
 
 -- the code's test of a level's size
-near : (l : ℤ) → (le_z (negsuc 1073741823) l && le_z l (pos 1073741824)) ≡ is_near l
+pub near : (l : ℤ) → is_within 1073741824 l ≡ is_near l
+unfolding is_within
 near (pos n) = refl
 near (negsuc n) = and-true (leb n 1073741823) ∙ sym (leb-suc-suc n 1073741823)
-
-pub near_test : (l : ℤ) → SFits w32 l → (le_z (negsuc 1073741823) (to_z w32 (of_z w32 l)) && le_z (to_z w32 (of_z w32 l)) (pos 1073741824)) ≡ is_near l
-near_test l f = ap (λ (z : ℤ). le_z (negsuc 1073741823) z && le_z z (pos 1073741824)) (to_z-of_z f) ∙ near l

@@ -14,6 +14,13 @@ use Rattle.format.specs.Format.{Block, bytes_of}
 abbrev pub level_from : List ℤ → ℕ → ℕ → ℤ
 level_from levels place p = get_or levels (place + p) (pos 0)
 
+-- the level at a place of a buffer, and a block with the levels of one
+abbrev pub level_at : List ℤ → ℕ → ℤ
+level_at levels p = get_or levels p (pos 0)
+
+abbrev pub block_of : ℕ → ℕ → ℕ → List ℤ → Block
+block_of number w h levels = record { number = number; w = w; h = h; levels = levels }
+
 -- a block with its levels from a place of a buffer on
 unfoldable pub block_from : ℕ → ℕ → ℕ → List ℤ → ℕ → Block
 block_from number w h levels place = record { number = number; w = w; h = h; levels = take (w * h) (drop place levels) }

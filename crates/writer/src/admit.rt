@@ -1,47 +1,42 @@
 // The tests of a list of blocks in lent buffers, before anything is written.
-ghost use Rattle.std.specs.Prelude.{◌≡◌, true, not, ◌||◌, ◌+◌, ◌*◌, ◌/◌, ◌^◌, ◌≤◌, ◌<◌, min, ltb, pos, length, get_or};
+ghost use Rattle.std.specs.Prelude.{◌≡◌, true, not, ◌||◌, ◌*◌, ◌^◌, ◌≤◌, ◌<◌, min, ltb, length, get_or, MatchResult};
 ghost use Rattle.laws.specs.Table.{every};
-ghost use Rattle.answer.specs.Answer.{told, lowest};
+ghost use Rattle.answer.specs.Answer.{answers, refuses, number_of, lowest};
 ghost use Rattle.sizes.specs.Size.{is_side};
-ghost use Rattle.format.specs.Pieces.{is_near, listed};
-ghost use Rattle.writer.specs.Writing.{level_from, place_at, length_to, is_rising, by_buffers};
+ghost use Rattle.format.specs.Pieces.{listed};
+ghost use Rattle.writer.specs.Writing.{level_at, place_at, length_to, is_rising, by_buffers};
 
-use answer::{Outcome, Refusal};
+use answer::Refusal;
+
+// The largest level.
+const LARGEST: u32 = 1 << 30;
 
 // How many of the sides of count blocks are lent.
 fn lent_sides(count: usize, lent: usize) -> usize
     ensures { result ≡ min (2 * count) lent }
 {
-    if lent / 2 < count {
-        return lent;
-    }
-    2 * count
+    count.saturating_mul(2).min(lent)
 }
 
-// Whether the first n sides are sides.
-fn are_sides(n: usize, sides: &[usize]) -> bool
-    requires { n ≤ length sides.now }
-    ensures { result ≡ every n (λ i. is_side (get_or sides.now i 0)) }
+// Whether each side is a side.
+fn are_sides(sides: &[usize]) -> bool
+    ensures { result ≡ every (length sides.now) (λ i. is_side (get_or sides.now i 0)) }
 {
     let mut ok = true;
-    let mut i = 0;
-    while i < n {
-        ok = sizes::is_side(sides[i]) & ok;
-        i += 1;
+    for side in sides {
+        ok &= sizes::is_side(*side);
     }
     ok
 }
 
-// How many bytes are listed for the n levels from a place on.
-pub(crate) fn listed_length(levels: &[i32], place: usize, n: usize) -> usize
-    requires { (n ≤ 1024) × (place + n ≤ length levels.now) }
-    ensures { result ≡ length (listed n (level_from levels.now place)) }
+// How many bytes are listed for some levels.
+pub(crate) fn listed_length(levels: &[i32]) -> usize
+    requires { length levels.now ≤ 1024 }
+    ensures { result ≡ length (listed (length levels.now) (level_at levels.now)) }
 {
     let mut count: u32 = 0;
-    let mut p = 0;
-    while p < n {
-        count += (levels[place + p] != 0) as u32;
-        p += 1;
+    for level in levels {
+        count += u32::from(*level != 0);
     }
     4 * (count as usize)
 }
@@ -53,19 +48,17 @@ fn fits(count: usize, sides: &[usize], levels: &[i32], room: usize) -> bool
 {
     let mut place = 0;
     let mut bytes = 0;
-    let mut k = 0;
-    while k < count {
+    for k in 0..count {
         let n = sides[2 * k] * sides[2 * k + 1];
         if levels.len() - place < n {
             return false;
         }
-        let more = 5 + n / 8 + listed_length(levels, place, n);
+        let more = 5 + n / 8 + listed_length(&levels[place..place + n]);
         if room - bytes < more {
             return false;
         }
         place += n;
         bytes += more;
-        k += 1;
     }
     true
 }
@@ -76,77 +69,47 @@ fn places_of(count: usize, sides: &[usize]) -> usize
     ensures { result ≡ place_at sides.now count }
 {
     let mut place = 0;
-    let mut k = 0;
-    while k < count {
+    for k in 0..count {
         place += sides[2 * k] * sides[2 * k + 1];
-        k += 1;
     }
     place
 }
 
-// Whether a level is within 2^30 of zero.
-fn is_near(l: i32) -> bool
-    ensures { result ≡ is_near l }
-{
-    (-1073741824 <= l) & (l <= 1073741824)
-}
-
-// Whether each of the first n levels is.
-fn are_near(n: usize, levels: &[i32]) -> bool
-    requires { n ≤ length levels.now }
-    ensures { result ≡ every n (λ p. is_near (get_or levels.now p (pos 0))) }
+// Whether the numbers rise.
+fn is_rising(numbers: &[u32]) -> bool
+    ensures { result ≡ is_rising (length numbers.now) numbers.now }
 {
     let mut ok = true;
-    let mut p = 0;
-    while p < n {
-        ok = is_near(levels[p]) & ok;
-        p += 1;
+    for k in 1..numbers.len() {
+        ok &= numbers[k - 1] < numbers[k];
     }
     ok
 }
 
-// Whether the first count numbers rise.
-fn is_rising(count: usize, numbers: &[u32]) -> bool
-    requires { count ≤ length numbers.now }
-    ensures { result ≡ is_rising count numbers.now }
-{
-    if count == 0 {
-        return true;
-    }
-    let last = count - 1;
-    let mut ok = true;
-    let mut k = 0;
-    while k < last {
-        ok = (numbers[k] < numbers[k + 1]) & ok;
-        k += 1;
-    }
-    ok
-}
-
-// Why the blocks can't be written in so many bytes, or 0.
+// Whether the blocks can be written in so many bytes, or why not.
 pub(crate) fn admit(
     count: usize,
     numbers: &[u32],
     sides: &[usize],
     levels: &[i32],
     room: usize,
-) -> Outcome
-    ensures { told result ≡ lowest (by_buffers count numbers.now sides.now levels.now room) 0 }
+) -> Result<(), Refusal>
+    ensures { MatchResult result (λ _. answers 0 ≡ lowest (by_buffers count numbers.now sides.now levels.now room) 0) (λ why. refuses (number_of why) ≡ lowest (by_buffers count numbers.now sides.now levels.now room) 0) }
 {
-    if !are_sides(lent_sides(count, sides.len()), sides) {
-        return Outcome::Refused(Refusal::BadSize);
+    if !are_sides(&sides[..lent_sides(count, sides.len())]) {
+        return Err(Refusal::BadSize);
     }
     if (numbers.len() < count) | (sides.len() / 2 < count) {
-        return Outcome::Refused(Refusal::ShortBuffer);
+        return Err(Refusal::ShortBuffer);
     }
     if !fits(count, sides, levels, room) {
-        return Outcome::Refused(Refusal::ShortBuffer);
+        return Err(Refusal::ShortBuffer);
     }
-    if !are_near(places_of(count, sides), levels) {
-        return Outcome::Refused(Refusal::BadRecord);
+    if !fixed::all_within(LARGEST, &levels[..places_of(count, sides)]) {
+        return Err(Refusal::BadRecord);
     }
-    if !is_rising(count, numbers) {
-        return Outcome::Refused(Refusal::RecordOrder);
+    if !is_rising(&numbers[..count]) {
+        return Err(Refusal::RecordOrder);
     }
-    Outcome::Done(0)
+    Ok(())
 }

@@ -2,7 +2,6 @@
 #![tactic(auto)]
 
 mod admit;
-mod bytes;
 mod write;
 
 pub use write::write_records;

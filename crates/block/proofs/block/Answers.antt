@@ -1,50 +1,46 @@
 -- `block::block` meets its contract. Assumes nothing.
-use mathlib.Core.Path.{◌≡◌, sym, ap, ◌∙◌, subst}
-use Prim.Native.Nat.{ℕ, ◌+◌}
-use lib.IntN.{ℤ}
-use lib.ListN.{length}
-use mathlib.Core.List.{List}
-use Rattle.answer.specs.Answer.{told}
-use Rattle.answer.specs.declared.Outcome.{Outcome}
-use Rattle.answer.specs.declared.Outcome.TheVariants.{Done}
 use Rattle.answer.proofs.Answer.{kept, written}
-use Rattle.kernels.specs.Kernel.{has_kernel}
 use Rattle.block.specs.Answer.{block_answer, scratch_after, output_after}
-use Rattle.block.specs.Lines.{LinesRoom}
-use Rattle.block.proofs.Accepted.{Accepted, accepted}
+use Rattle.block.proofs.Accepted.{accepted}
 use Rattle.block.proofs.Whole.{columns_asked, rows_asked, all_columns, all_rows}
 use Rattle.block.proofs.block.Goals as goal
 
--- what is known of the arguments where the call is accepted
-known : {o : Outcome} {n w h ck rk : ℕ} {residuals : List ℤ} {ls lo : ℕ} →
-    o ≡ Done n → told o ≡ block_answer w h ck rk residuals ls lo → Accepted w h ck rk residuals ls lo
-unfolding block_answer
-known is e = accepted _ (sym (ap told is) ∙ e)
+pub returns-in_err-shape-clause-scratch_after : goal.returns-in_err-shape-clause-scratch_after
+unfolding scratch_after
+returns-in_err-shape-clause-scratch_after c = kept _ _ c.in_err-shape.ensures.answer
 
-pub returns-in_default : goal.returns-in_default
-unfolding scratch_after output_after
-returns-in_default c =
-    let e = sym (ap told c.in_default.is) ∙ c.admit-answer.ensures in
-    record { result_value = c.admit-answer.ensures; scratch_after = kept _ _ e; output_after = kept _ _ e }
+pub returns-in_err-shape-clause-output_after : goal.returns-in_err-shape-clause-output_after
+unfolding output_after
+returns-in_err-shape-clause-output_after c = kept _ _ c.in_err-shape.ensures.answer
 
 pub column_lines-requires : goal.column_lines-requires
-column_lines-requires c = columns_asked (known c.in-Done.is c.admit-answer.ensures)
+unfolding block_answer
+column_lines-requires c =
+    let e = c.in_ok-shape.ensures in
+    let asked = e.as_asked in
+    rw (asked.0, asked.1) (columns_asked (accepted _ e.answer))
 
 pub row_lines-requires : goal.row_lines-requires
+unfolding block_answer
 row_lines-requires c =
-    let a = c.args in
-    subst (λ (l : ℕ). LinesRoom a.w a.h (has_kernel a.row_kind a.w) (0 + a.h) a.h a.w l (length a.output.now))
-    (sym c.column_lines.auto.scratch) (rows_asked (known c.in-Done.is c.admit-answer.ensures))
+    let e = c.in_ok-shape.ensures in
+    let asked = e.as_asked in
+    rw (asked.0, asked.1, c.column_lines.auto.scratch) (rows_asked (accepted _ e.answer))
 
-pub returns : goal.returns
-unfolding scratch_after output_after
-returns c =
+pub returns-clause-scratch_after : goal.returns-clause-scratch_after
+unfolding block_answer scratch_after
+returns-clause-scratch_after c =
+    let e = c.in_ok-shape.ensures in
+    let asked = e.as_asked in
+    written _ e.answer (all_columns (accepted _ e.answer) c.args.scratch.now (rw (asked.0, asked.1, asked.2) at c.column_lines.ensures))
+
+pub returns-clause-output_after : goal.returns-clause-output_after
+unfolding block_answer output_after
+returns-clause-output_after c =
+    let e = c.in_ok-shape.ensures in
+    let asked = e.as_asked in
+    let ok = accepted _ e.answer in
     let a = c.args in
-    let ok = known c.in-Done.is c.admit-answer.ensures in
-    let e = sym (ap told c.in-Done.is) ∙ c.admit-answer.ensures in
-    let s = c.column_lines.ensures in
-    record {
-      result_value = c.admit-answer.ensures;
-      scratch_after = written _ e (all_columns ok a.scratch.now s);
-      output_after = written _ e (all_rows ok a.scratch.now a.output.now ok.scratch_long s c.row_lines.ensures);
-    }
+    written _ e.answer
+    (all_rows ok a.scratch.now a.output.now ok.scratch_long (rw (asked.0, asked.1, asked.2) at c.column_lines.ensures)
+    (rw (asked.0, asked.1, asked.3) at c.row_lines.ensures))

@@ -1,20 +1,8 @@
--- `fixed::wrapping_sub` meets its contract: the result of 64 bits does not wrap, and `wrap` reduces it. Assumes nothing.
-use mathlib.Core.Path.{◌∙◌, ap}
-use lib.IntN.{◌-ℤ◌}
-use Rattle.laws.specs.Integer.{wrap32}
-use Rattle.fixed.proofs.Machine.{wide, sub_fits, op_fits, op_read, read_32}
+use mathlib.Core.Path.{◌∙◌}
+use Rattle.std.proofs.lemmas.Int.{wrapping_sub_is}
+use Rattle.fixed.proofs.Machine.{int_wrap_is}
+use mir.Syntax.{w32}
 use Rattle.fixed.proofs.wrapping_sub.Goals as goal
 
-pub overflow_cast-a : goal.overflow_cast-a
-overflow_cast-a c = wide c.ranges.a
-
-pub overflow_cast-b : goal.overflow_cast-b
-overflow_cast-b c = wide c.ranges.b
-
-pub overflow_sub-a : goal.overflow_sub-a
-overflow_sub-a c = op_fits ◌-ℤ◌ c.ranges.a c.ranges.b (sub_fits c.ranges.a c.ranges.b)
-
 pub returns : goal.returns
-returns c =
-    let f = c.ranges.a in let g = c.ranges.b in
-    read_32 _ c.wrap.type_inv ∙ c.wrap.ensures ∙ ap wrap32 (op_read ◌-ℤ◌ f g (sub_fits f g))
+returns c = wrapping_sub_is w32 c.args.a c.args.b c.ranges.a c.ranges.b ∙ int_wrap_is _

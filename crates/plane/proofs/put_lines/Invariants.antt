@@ -1,11 +1,7 @@
--- `plane::put_lines` meets its contract. Assumes nothing.
-use Prim.Native.Nat.{◌-◌, ◌≤◌}
+-- After i turns the first i lines are put.
 use Rattle.laws.proofs.Store.{Lined}
 use Rattle.plane.specs.Places.{plane_place, line_number}
 use Rattle.plane.proofs.put_lines.Given as goal
 
 abbrev pub invariant-loop-i : goal.invariant-loop-i
-invariant-loop-i l = Lined l.output l.initial.output l.i l.w (plane_place l.width l.x l.y) (line_number l.from l.w) × (l.i ≤ l.lines)
-
-abbrev pub decreases-loop-i : goal.decreases-loop-i
-decreases-loop-i l = l.lines - l.i
+invariant-loop-i l = Lined l.output l.initial.output l.i l.w (plane_place l.width l.x l.y) (line_number l.from l.w)

@@ -1,33 +1,29 @@
--- `tickets::are_kinds` meets its contract: every kind before the place is one. Assumes nothing.
+-- `tickets::are_kinds` meets its contract. Assumes nothing.
 use mathlib.Core.Path.{◌≡◌, sym}
-use mathlib.Core.Bool.{true}
+use mathlib.Core.Bool.{Bool, true, false}
+use mathlib.Core.List.{List}
+use Prim.Native.Nat.{ℕ, ◌<◌}
 use native.Mathlib.Omega.{arith}
-use borrow.Author.Count.{below_more}
-use borrow.Author.Tests.{le-leb, lt-leb}
 use lib.Dec.{leb}
 use lib.ListN.{length, get_or}
-use Rattle.tickets.specs.Play.{are_kinds}
+use Rattle.std.proofs.Common.{rules, tests}
+use Rattle.std.specs.Bool.{MatchBool}
+use Rattle.std.specs.List.{AllWithin, HoldsAt}
+use Rattle.std.proofs.lemmas.Iterator.{cases_from_all, YieldsList-from_slice}
+use Rattle.laws.specs.Table.{every}
 use Rattle.laws.proofs.Every.{every_all, every_not}
+use Rattle.tickets.specs.Play.{are_kinds}
 use Rattle.tickets.proofs.are_kinds.Goals as goal
 
-pub loop-i-init : goal.loop-i-init
-loop-i-init c = (omega arith, λ k b. absurd (omega arith))
+abbrev so : Bool → ℕ → Type 0
+so x kind = x ≡ leb kind 1
 
-pub returns-then-kinds-i-gt1 : goal.returns-then-kinds-i-gt1
-unfolding are_kinds
-returns-then-kinds-i-gt1 c =
-    let kinds = c.args.kinds.now in
-    let i = c.loop-i.i in
-    sym (every_not (length kinds) (λ k. leb (get_or kinds k 0) 1) i (omega arith) (lt-leb (get_or kinds i 0) 1 c.if-kinds-i-gt1.true))
-
-pub loop-i-preserved : goal.loop-i-preserved
-loop-i-preserved c =
-    let kinds = c.args.kinds.now in
-    let at = c.loop-i in
-    (omega arith, below_more (λ k. leb (get_or kinds k 0) 1 ≡ true) _ at.invariant.1 (le-leb (get_or kinds at.i 0) 1 c.if-kinds-i-gt1.false))
+by_place : (r : Bool) (kinds : List ℕ) → MatchBool r (AllWithin (so true) kinds 0 (length kinds)) ((k : ℕ) × (k < length kinds) × HoldsAt (so false) kinds k)
+    → r ≡ every (length kinds) (λ i. leb (get_or kinds i 0) 1)
+by_place true kinds h = sym (every_all _ _ (λ i b. sym (h i 0 (omega arith) b)))
+by_place false kinds h = sym (every_not _ _ h.0 h.1 (sym (h.2 0)))
 
 pub returns : goal.returns
 unfolding are_kinds
 returns c =
-    let kinds = c.args.kinds.now in
-    sym (every_all (length kinds) (λ k. leb (get_or kinds k 0) 1) (λ k b. c.loop-i.invariant.1 k (omega arith)))
+    by_place _ _ (cases_from_all _ _ _ (so true) (so false) c.all.ensures.ran (YieldsList-from_slice c.args.kinds.now cc) (λ x q k. search (rules, tests)) (λ x q k. search (rules, tests)))

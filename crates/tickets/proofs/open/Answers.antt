@@ -1,9 +1,10 @@
 -- `tickets::open` meets its contract. Assumes nothing.
+use mathlib.Core.Path.{sym}
 use Rattle.tickets.proofs.Opened.{open_refused, open_done}
 use Rattle.tickets.proofs.open.Goals as goal
 
-pub returns-in_default : goal.returns-in_default
-returns-in_default c = open_refused c.admit-outcome.ensures c.in_default.is c.new_ticket.ensures
+pub returns-in-Ok : goal.returns-in-Ok
+returns-in-Ok c = let e = open_done _ _ _ _ _ _ _ c.in-Ok.ensures.answer in record { answer = e; ticket = rw (sym e) c.new_ticket.ensures }
 
-pub returns : goal.returns
-returns c = open_done c.admit-outcome.ensures c.in-Done.is c.new_ticket-2.ensures
+pub returns-in-Err : goal.returns-in-Err
+returns-in-Err c = let e = open_refused _ _ _ _ _ _ _ c.in-Err.ensures.answer in record { answer = e; ticket = rw (sym e) c.new_ticket-in-Err.ensures }

@@ -1,12 +1,7 @@
 -- `tiles::close_tile` meets its contract. Assumes nothing.
-use mathlib.Core.Path.{◌∙◌}
-use borrow.Author.Rules.{rules}
 use Rattle.plane.proofs.Small.{closing_small}
-use Rattle.tiles.proofs.Signed.{planned_small, signed_planned}
+use Rattle.tiles.proofs.Signed.{planned_small}
 use Rattle.tiles.proofs.close_tile.Goals as goal
 
-pub signed-number-requires : goal.signed-number-requires
-signed-number-requires c = planned_small c.close_tile-done.result c.close_tile-done.ensures (closing_small _ _ _)
-
-pub returns : goal.returns
-returns c = signed_planned c.close_tile-done.result c.close_tile-done.ensures (search rules ∙ c.signed-number.ensures)
+pub new-requires : goal.new-requires
+new-requires c = planned_small c.close_tile.result c.close_tile.ensures (closing_small _ _ _)

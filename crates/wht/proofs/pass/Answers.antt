@@ -45,7 +45,7 @@ row c =
     ∙ ap (λ (k : ℕ). wht_four (get_or at-loop.args.src.now k (pos 0)) (x 1) (x 2) (x 3)) (sym (add-zero at-loop.loop-j.j))
 
 pub loop-j-init : goal.loop-j-init
-loop-j-init c = (lined_none, omega arith)
+loop-j-init c = lined_none
 
 pub line-y-requires : goal.line-y-requires
 line-y-requires c =
@@ -59,38 +59,36 @@ line-y-requires c =
     )
 
 pub loop-f-init : goal.loop-f-init
-loop-f-init c = (stored_none, omega arith)
+loop-f-init c = stored_none
 
 pub bounds-dst-at : goal.bounds-dst-at
 bounds-dst-at c =
     omega (
       arith,
-      stored_length c.loop-f.invariant.0,
-      lined_length c.loop-j.invariant.0,
+      stored_length c.loop-f.invariant,
+      lined_length c.loop-j.invariant,
       c.requires.in_bounds,
     )
 
 pub loop-f-preserved : goal.loop-f-preserved
-loop-f-preserved c = (stored_turn c.loop-f.invariant.0 refl (back _ c.dst-1.given), omega arith)
+loop-f-preserved c = stored_turn c.loop-f.invariant refl (back _ c.dst-1.given)
 
 pub loop-j-preserved : goal.loop-j-preserved
 unfolding line_of
 loop-j-preserved c =
     let at-line = c.before.before in
-    let at-loop = at-line.before.before.before.before.before.before in (
-      lined_turn at-loop.loop-j.invariant.0
-          (stored_all {n = 4} c.loop-f.invariant.0 (omega arith)
-          ∙ ap (λ (y : List ℤ). stores at-loop.loop-j.dst 4 (to at-loop.loop-j.j) (λ k. get_or y k (pos 0))) (row at-line)),
-      omega arith,
-    )
+    let at-loop = at-line.before.before.before.before.before.before in
+    lined_turn at-loop.loop-j.invariant
+    (stored_all {n = 4} c.loop-f.invariant (omega arith)
+    ∙ ap (λ (y : List ℤ). stores at-loop.loop-j.dst 4 (to at-loop.loop-j.j) (λ k. get_or y k (pos 0))) (row at-line))
 
 pub shape_of-dst : goal.shape_of-dst
-shape_of-dst c = lined_length c.loop-j.invariant.0
+shape_of-dst c = lined_length c.loop-j.invariant
 
 pub returns : goal.returns
 unfolding turned
 returns c =
     let at-start = c.before.before in
     let a = at-start.args in
-    lined_all c.loop-j.invariant.0 (omega arith)
+    lined_all c.loop-j.invariant (omega arith)
     ∙ grid_laid a.dst.now 0 4 4 to (λ i f. line_of (column a.src.now i) f) (lit< tt) (omega arith) (λ j f. sym (zero-add _)) (pos 0)

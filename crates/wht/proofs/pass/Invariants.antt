@@ -1,6 +1,6 @@
 -- `wht::pass` meets its contract: after j turns dst has j rows. Assumes nothing.
 use mathlib.Core.List.{List}
-use Prim.Native.Nat.{ℕ, ◌+◌, ◌*◌, ◌-◌, ◌≤◌}
+use Prim.Native.Nat.{ℕ, ◌+◌, ◌*◌}
 use lib.IntN.{ℤ, pos}
 use lib.ListN.{get_or}
 use Rattle.laws.proofs.Store.{Stored, Lined}
@@ -15,13 +15,7 @@ abbrev pub column : List ℤ → ℕ → ℕ → ℤ
 column src j k = get_or src (j + k * 4) (pos 0)
 
 abbrev pub invariant-loop-f : goal.invariant-loop-f
-invariant-loop-f l = Stored l.dst l.initial.dst l.f (to l.j) (λ k. get_or l.y k (pos 0)) × (l.f ≤ 4)
-
-abbrev pub decreases-loop-f : goal.decreases-loop-f
-decreases-loop-f l = 4 - l.f
+invariant-loop-f l = Stored l.dst l.initial.dst l.f (to l.j) (λ k. get_or l.y k (pos 0))
 
 abbrev pub invariant-loop-j : goal.invariant-loop-j
-invariant-loop-j l = Lined l.dst l.initial.dst l.j 4 to (λ i f. line_of (column l.src i) f) × (l.j ≤ 4)
-
-abbrev pub decreases-loop-j : goal.decreases-loop-j
-decreases-loop-j l = 4 - l.j
+invariant-loop-j l = Lined l.dst l.initial.dst l.j 4 to (λ i f. line_of (column l.src i) f)

@@ -1,10 +1,7 @@
 -- `look::record::count_in` meets its contract. Assumes nothing.
-use Rattle.std.proofs.Common.{◌≡◌, ◌-◌, ◌*◌, ◌/◌, ◌≤◌}
+use Rattle.std.proofs.Common.{◌≡◌, ◌*◌}
 use Rattle.format.specs.Format.{count_in}
 use Rattle.look.proofs.record.count_in.Given as goal
 
 abbrev pub invariant-loop-j : goal.invariant-loop-j
-invariant-loop-j l = (l.count ≡ count_in l.s (8 * l.j)) × (l.j ≤ l.n / 8)
-
-abbrev pub decreases-loop-j : goal.decreases-loop-j
-decreases-loop-j l = l.n / 8 - l.j
+invariant-loop-j l = l.count ≡ count_in l.s (8 * l.j)

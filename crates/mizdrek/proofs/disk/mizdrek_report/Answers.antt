@@ -6,36 +6,38 @@ use borrow.Author.Tests.{lt-ltb}
 use lib.Dec.{T}
 use Rattle.totals.proofs.Fits.{blocks_small}
 use Rattle.totals.specs.Totals.{Reported, reported}
-use Rattle.totals.specs.declared.Report.{Report}
+use Rattle.totals.specs.declared.Totals.{Totals}
+use Rattle.answer.specs.declared.Refusal.{Refusal}
+use Rattle.std.specs.Prelude.{Result}
 use Rattle.mizdrek.specs.Reported.{signed_report, levels_given, magnitude_given}
 use Rattle.mizdrek.proofs.disk.mizdrek_report.Goals as goal
 
 -- what the call found, by the arm that its result is
-arm : {q r : Report} {s : Reported} → q ≡ r → reported q ≡ s → reported r ≡ s
+arm : {q r : Result Totals Refusal} {s : Reported} → q ≡ r → reported q ≡ s → reported r ≡ s
 arm is e = sym (ap reported is) ∙ e
 
-pub signed-requires-in-Of : goal.signed-requires-in-Of
-signed-requires-in-Of c =
-    let t = c.in-Of.t in
-    let e = arm c.in-Of.is c.add_up-report.ensures in
+pub signed-requires-in-Ok : goal.signed-requires-in-Ok
+signed-requires-in-Ok c =
+    let t = c.in-Ok.t in
+    let e = arm c.in-Ok.is c.add_up.ensures in
     subst T (sym (lt-ltb t.blocks (2 ^ 63) (blocks_small c.args.bytes.now t.blocks t.levels t.magnitude e))) tt
 
-pub returns-in-Refused : goal.returns-in-Refused
-returns-in-Refused c =
+pub returns-in-Err : goal.returns-in-Err
+returns-in-Err c =
     let a = c.args in
-    let e = arm c.in-Refused.is c.add_up-report.ensures in
+    let e = arm c.in-Err.is c.add_up.ensures in
     record {
       value = search rules ∙ c.signed.ensures ∙ ap signed_report e;
       levels_after = ap (λ (x : Reported). levels_given x a.levels.now) e;
       magnitude_after = ap (λ (x : Reported). magnitude_given x a.magnitude.now) e;
     }
 
-pub returns-in-Of : goal.returns-in-Of
-returns-in-Of c =
+pub returns-in-Ok : goal.returns-in-Ok
+returns-in-Ok c =
     let a = c.args in
-    let e = arm c.in-Of.is c.add_up-report.ensures in
+    let e = arm c.in-Ok.is c.add_up.ensures in
     record {
-      value = search rules ∙ c.signed-in-Of.ensures ∙ ap signed_report e;
+      value = search rules ∙ c.signed-in-Ok.ensures ∙ ap signed_report e;
       levels_after = ap (λ (x : Reported). levels_given x a.levels.now) e;
       magnitude_after = ap (λ (x : Reported). magnitude_given x a.magnitude.now) e;
     }

@@ -1,10 +1,10 @@
--- `quant::scan::find_places` meets its contract: after i turns the first i places are there, and tested. Assumes nothing.
+-- After i turns the first i places are there, and tested.
 use mathlib.Core.Path.{◌≡◌}
 use mathlib.Core.Bool.{Bool}
 use mathlib.Core.List.{List}
-use Prim.Native.Nat.{ℕ, ◌-◌, ◌≤◌}
+use Prim.Native.Nat.{ℕ}
 use lib.Dec.{ltb}
-use lib.ListN.{length, get_or}
+use lib.ListN.{get_or}
 use Rattle.laws.specs.Table.{every}
 use Rattle.laws.proofs.Store.{Stored}
 use Rattle.quant.specs.Scan.{meant}
@@ -19,7 +19,5 @@ below direct width scan limit i = ltb (place direct width scan i) limit
 
 abbrev pub invariant-loop-i : goal.invariant-loop-i
 invariant-loop-i l =
-    Stored l.places l.initial.places l.i (λ k. k) (place l.by_width l.width l.scan) × (l.ok ≡ every l.i (below l.by_width l.width l.scan l.limit)) × (l.i ≤ length l.scan)
-
-abbrev pub decreases-loop-i : goal.decreases-loop-i
-decreases-loop-i l = length l.scan - l.i
+    Stored l.places l.initial.places l.i (λ k. k) (place l.reading.by_width l.reading.width l.scan)
+    × (l.ok ≡ every l.i (below l.reading.by_width l.reading.width l.scan l.limit))

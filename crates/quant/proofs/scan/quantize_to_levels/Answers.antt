@@ -1,14 +1,15 @@
 -- `quant::scan::quantize_to_levels` meets its contract. Assumes nothing.
-use mathlib.Core.Path.{sym, ap, ◌∙◌}
+use mathlib.Core.Path.{◌∙◌}
 use native.Mathlib.Omega.{arith}
 use contract.Lifetimes.{Lfts}
 use borrow.Author.Tests.{not-false}
+use lib.Dec.{lit≤}
 use lib.ListN.{length}
-use Rattle.answer.specs.Answer.{told}
 use Rattle.answer.proofs.Answer.{kept}
 use Rattle.quant.specs.Scan.{levels_after, magnitudes_after}
-use Rattle.quant.proofs.Reading.{too_long}
-use Rattle.quant.proofs.Scanned.{Call, lost, card_refuses, card_answers, scan_lost}
+use Rattle.quant.proofs.Places.{too_long}
+use Rattle.quant.proofs.Scanned.{Call, card_refuses, card, by_its_scan, found_lost}
+use Rattle.quant.proofs.Whole.{the_answer, the_levels, the_magnitudes}
 use Rattle.quant.proofs.scan.quantize_to_levels.Goals as goal
 use Rattle.quant.proofs.scan.quantize_to_levels.Lts as lts
 use Rattle.quant.proofs.scan.quantize_to_levels.Reads as reads
@@ -18,36 +19,58 @@ abbrev call : {l : Lfts 4} → lts.Args tie.the-claims reads.Pre reads.Post tie.
 call a =
     record { width = a.width; step = a.step; settings = a.settings; coefficients = a.coefficients.now; scan = a.scan.now; levels = length a.levels.now; magnitudes = length a.magnitudes.now }
 
-pub returns-in_default : goal.returns-in_default
-unfolding levels_after magnitudes_after
-returns-in_default c =
-    let e = card_refuses (call c.args) _ (sym (ap told c.in_default.is) ∙ c.admit-answer.ensures) in
-    record { result_value = rw c.in_default.is e; levels_after = kept _ _ e; magnitudes_after = kept _ _ e }
+pub returns-in_err-quantizer-clause-levels_after : goal.returns-in_err-quantizer-clause-levels_after
+unfolding levels_after
+returns-in_err-quantizer-clause-levels_after c =
+    let a = c.args in
+    kept _ _ (card_refuses _ a.width a.step a.settings a.coefficients.now a.scan.now _ _ c.in_err-quantizer.ensures)
 
--- `write` is told of the tests before it
-pub write-requires : goal.write-requires
-write-requires c =
-    record {
-      admitted = card_answers (call c.args) _ (sym (ap told c.in-Done.is) ∙ c.admit-answer.ensures);
-      scan_len_bound = (omega arith, omega arith, omega arith);
-    }
+pub returns-in_err-quantizer-clause-magnitudes_after : goal.returns-in_err-quantizer-clause-magnitudes_after
+unfolding magnitudes_after
+returns-in_err-quantizer-clause-magnitudes_after c =
+    let a = c.args in
+    kept _ _ (card_refuses _ a.width a.step a.settings a.coefficients.now a.scan.now _ _ c.in_err-quantizer.ensures)
+
+pub in_room-requires : goal.in_room-requires
+in_room-requires c =
+    let k = card (call c.args) _ c.in_ok-quantizer.ensures.2 in
+    (lit≤ tt, c.if-n-le64.true, k.levels_room, k.magnitudes_room)
 
 pub returns-then-n-le64 : goal.returns-then-n-le64
-returns-then-n-le64 c = c.write.ensures
-
-pub write-requires-then-n-le1024 : goal.write-requires-then-n-le1024
-write-requires-then-n-le1024 c =
+unfolding levels_after magnitudes_after
+returns-then-n-le64 c =
+    let a = c.args in
+    let s = c.in_ok-quantizer.quantizer.scale in
+    let is = c.in_ok-quantizer.ensures in
+    let e = c.in_room.ensures in
     record {
-      admitted = card_answers (call c.args) _ (sym (ap told c.in-Done.is) ∙ c.admit-answer.ensures);
-      scan_len_bound = (omega arith, omega arith, omega arith);
+      result_value = the_answer (call a) _ s.inverse s.threshold s.bias is e.value;
+      levels_after = the_levels (call a) _ s.inverse s.threshold s.bias is a.levels.now _ e.levels_after;
+      magnitudes_after = the_magnitudes (call a) _ s.inverse s.threshold s.bias is a.magnitudes.now _ e.magnitudes_after;
     }
 
+pub in_room-requires-then-n-le1024 : goal.in_room-requires-then-n-le1024
+in_room-requires-then-n-le1024 c =
+    let k = card (call c.args) _ c.in_ok-quantizer.ensures.2 in
+    (lit≤ tt, c.if-n-le1024.true, k.levels_room, k.magnitudes_room)
+
 pub returns-then-n-le1024 : goal.returns-then-n-le1024
-returns-then-n-le1024 c = c.write-then-n-le1024.ensures
+unfolding levels_after magnitudes_after
+returns-then-n-le1024 c =
+    let a = c.args in
+    let s = c.in_ok-quantizer.quantizer.scale in
+    let is = c.in_ok-quantizer.ensures in
+    let e = c.in_room-then-n-le1024.ensures in
+    record {
+      result_value = the_answer (call a) _ s.inverse s.threshold s.bias is e.value;
+      levels_after = the_levels (call a) _ s.inverse s.threshold s.bias is a.levels.now _ e.levels_after;
+      magnitudes_after = the_magnitudes (call a) _ s.inverse s.threshold s.bias is a.magnitudes.now _ e.magnitudes_after;
+    }
 
 pub returns : goal.returns
 unfolding levels_after magnitudes_after
 returns c =
-    let k = call c.args in
-    let e = scan_lost k _ (sym (ap told c.in-Done.is) ∙ c.admit-answer.ensures) (not-false (lost k) (too_long k.width k.coefficients k.scan (omega arith))) in
+    let a = c.args in
+    let lost = not-false _ (too_long a.width a.coefficients.now a.scan.now (omega arith)) in
+    let e = found_lost a.width a.coefficients.now a.scan.now lost ∙ by_its_scan (call a) _ c.in_ok-quantizer.ensures.2 in
     record { result_value = e; levels_after = kept _ _ e; magnitudes_after = kept _ _ e }

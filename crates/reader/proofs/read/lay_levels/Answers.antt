@@ -1,75 +1,56 @@
 -- `reader::read::lay_levels` meets its contract. Assumes nothing.
-use mathlib.Core.List.{List}
-use mathlib.Core.Path.{◌≡◌, sym, ap, ◌∙◌}
-use Prim.Native.Nat.{ℕ, ◌+◌, ◌*◌, ◌%◌, ◌≤◌, ◌<◌}
-use native.Mathlib.Omega.{arith}
-use lib.IntN.{ℤ}
-use lib.ListN.{length}
-use Rattle.laws.proofs.Laid.{length_laid}
-use Rattle.laws.proofs.Pasted.{laid_none, laid_both}
-use Rattle.laws.specs.Store.{laid}
-use Rattle.format.specs.Format.{count_in, list_in, level_in, places_in}
+use Rattle.std.proofs.Common.{◌≡◌, ℕ, ◌+◌, ◌-◌, ◌*◌, ◌≤◌, List, ℤ, length, sym, ap, ◌∙◌, arith}
+use borrow.Rule.Slice.PartMut.{put_mid}
+use Rattle.laws.proofs.Laid.{length_tab}
+use Rattle.laws.proofs.Pasted.{spliced, pasted_laid, laid_none, laid_both}
+use Rattle.laws.specs.Store.{tab, pasted, laid}
+use Rattle.format.specs.Format.{places_in, count_in, list_in, level_in}
 use Rattle.format.proofs.Sides.{sized_in}
 use Rattle.look.proofs.Looked.{length_is}
 use Rattle.look.proofs.Counted.{count_none}
+use Rattle.format.proofs.Fill.{over_whole}
 use Rattle.reader.proofs.read.lay_levels.Goals as goal
 
-long : (levels₀ : List ℤ) (place : ℕ) (f : ℕ → ℤ) {levels : List ℤ} {q n : ℕ} → levels ≡ laid levels₀ place q f → place + n ≤ length levels₀ → q ≤ n
-    → length levels ≡ length levels₀
-long levels₀ place f {levels} {q} e h k = ap length e ∙ length_laid levels₀ place q f (omega arith)
+pub loop-j-init : goal.loop-j-init
+loop-j-init c =
+    let s = c.args.whole.now.bytes.now in
+    record { laid = laid_none c.args.levels.now 0 (level_in s); next = omega (arith, count_none s, c.requires) }
 
 -- eight places more
-inside : (s : List ℕ) {n q : ℕ} → n ≡ places_in s → q % 8 ≡ 0 → q < n → q + 8 ≤ n
-inside s e h b = let z = sized_in s in omega (arith, z.whole)
+eight_more : (d : List ℤ) (level : ℕ → ℤ) (j : ℕ) {levels new : List ℤ} → levels ≡ laid d 0 (8 * j) level → new ≡ tab 8 (λ i. level (8 * j + i))
+    → 8 * j + 8 ≤ length d → put_mid (8 * j) (8 * j + 8 - 8 * j) levels new ≡ laid d 0 (8 * (j + 1)) level
+eight_more d level j {levels} {new} e f room =
+    let eight = tab 8 (λ i. level (8 * j + i)) in
+    ap (λ (l : List ℤ). put_mid (8 * j) (8 * j + 8 - 8 * j) levels l) f
+    ∙ spliced levels eight (8 * j) (8 * j + 8) (omega (arith, length_tab 8 (λ i. level (8 * j + i))))
+    ∙ ap (λ (l : List ℤ). pasted l (8 * j) eight) e
+    ∙ sym (pasted_laid (laid d 0 (8 * j) level) (8 * j) 8 (λ i. level (8 * j + i)))
+    ∙ ap (λ (k : ℕ). laid (laid d 0 (8 * j) level) k 8 (λ i. level (8 * j + i))) (omega arith)
+    ∙ laid_both d 0 (8 * j) 8 level (omega arith)
+    ∙ ap (λ (n : ℕ). laid d 0 n level) (omega arith)
 
-pub overflow_add-at : goal.overflow_add-at
-overflow_add-at c = omega (arith, sized_in c.args.s.now)
-
-pub loop-q-init : goal.loop-q-init
-loop-q-init c =
-    let a = c.args in
-    (laid_none a.levels.now a.place (level_in a.s.now), omega (arith, count_none a.s.now, c.requires.0), omega arith, omega arith)
-
-pub overflow_add-place : goal.overflow_add-place
-overflow_add-place c =
-    let i = c.loop-q.invariant in
-    omega (arith, inside c.args.s.now c.requires.0 i.2 c.loop-q-test.true, long c.args.levels.now c.args.place (level_in c.args.s.now) i.0 c.requires.2 i.3)
-
-pub lay_eight-at-requires : goal.lay_eight-at-requires
-lay_eight-at-requires c =
-    let i = c.loop-q.invariant in
-    let more = inside c.args.s.now c.requires.0 i.2 c.loop-q-test.true in
-    (i.2, omega (arith, more, c.requires.0), c.requires.1, i.1, omega (arith, more, c.requires.2, long c.args.levels.now c.args.place (level_in c.args.s.now) i.0 c.requires.2 i.3))
-
-pub overflow_add-q : goal.overflow_add-q
-overflow_add-q c = omega (arith, inside c.args.s.now c.requires.0 c.loop-q.invariant.2 c.loop-q-test.true)
-
-pub loop-q-smaller : goal.loop-q-smaller
-loop-q-smaller c = omega (arith, inside c.args.s.now c.requires.0 c.loop-q.invariant.2 c.loop-q-test.true)
-
-pub loop-q-preserved : goal.loop-q-preserved
-loop-q-preserved c =
-    let l = c.loop-q in
-    let a = c.args in
-    let s = a.s.now in
-    let more = inside s c.requires.0 l.invariant.2 c.loop-q-test.true in (
-      c.lay_eight-at.ensures.levels_after
-          ∙ ap (λ (x : List ℤ). laid x (a.place + l.q) 8 (λ i. level_in s (l.q + i))) l.invariant.0
-          ∙ laid_both a.levels.now a.place l.q 8 (level_in s) (omega (arith, c.requires.2, more)),
-      c.lay_eight-at.ensures.value,
-      omega (arith, l.invariant.2),
-      more,
-    )
-
-pub shape_of-levels : goal.shape_of-levels
-shape_of-levels c = long c.args.levels.now c.args.place (level_in c.args.s.now) c.loop-q.invariant.0 c.requires.2 c.loop-q.invariant.3
-
-pub returns : goal.returns
-returns c =
-    let a = c.args in
-    let s = a.s.now in
-    let done : c.loop-q.q ≡ a.n = omega arith in
+pub loop-j-preserved : goal.loop-j-preserved
+loop-j-preserved c =
+    let s = c.args.whole.now.bytes.now in
+    let j = c.loop-j.j in
+    let e = c.lay_eight-at.ensures in
     record {
-      value = c.loop-q.invariant.1 ∙ ap (λ (k : ℕ). list_in s + 4 * count_in s k) (done ∙ c.requires.0) ∙ sym (length_is s);
-      levels_after = c.loop-q.invariant.0 ∙ ap (λ (k : ℕ). laid a.levels.now a.place k (level_in s)) done;
+      laid = eight_more c.args.levels.now (level_in s) j c.loop-j.invariant.laid e.levels_after (omega (arith, c.loop-j-test.true));
+      next = e.value ∙ ap (λ (n : ℕ). list_in s + 4 * count_in s n) (omega arith);
     }
+
+pub returns-clause-value : goal.returns-clause-value
+returns-clause-value c =
+    let s = c.args.whole.now.bytes.now in
+    let done : 8 * c.loop-j.j ≡ places_in s = omega (arith, (sized_in s).whole, c.requires) in
+    c.loop-j.invariant.next ∙ ap (λ (n : ℕ). list_in s + 4 * count_in s n) done ∙ sym (length_is s)
+
+pub returns-clause-levels_after : goal.returns-clause-levels_after
+returns-clause-levels_after c =
+    let s = c.args.whole.now.bytes.now in
+    let d = c.args.levels.now in
+    let done : 8 * c.loop-j.j ≡ places_in s = omega (arith, (sized_in s).whole, c.requires) in
+    c.loop-j.invariant.laid
+    ∙ ap (λ (n : ℕ). laid d 0 n (level_in s)) done
+    ∙ pasted_laid d 0 (places_in s) (level_in s)
+    ∙ over_whole (tab (places_in s) (level_in s)) d (length_tab (places_in s) (level_in s) ∙ sym c.requires)

@@ -1,22 +1,15 @@
 -- `writer::write::map_byte` meets its contract. Assumes nothing.
-use mathlib.Core.Path.{ap}
-use Prim.Native.Nat.{ℕ}
-use native.Mathlib.Nat.{add-zero}
-use native.Mathlib.Omega.{arith}
-use lib.IntN.{pos}
-use lib.ListN.{get_or}
-use Rattle.format.proofs.Bits.{one?, eight}
+use Rattle.std.proofs.Common.{arith}
+use Rattle.format.proofs.Bits.{eight}
 use Rattle.format.specs.Pieces.{stands}
-use Rattle.writer.specs.Writing.{level_from}
+use Rattle.writer.specs.Writing.{level_at}
 use Rattle.writer.proofs.write.map_byte.Goals as goal
 
 pub returns : goal.returns
 returns c =
-    let a = c.args in
     omega (
       arith,
-      eight (λ i. stands (level_from a.levels.now a.place i)),
-      ap (λ (k : ℕ). one? (stands (get_or a.levels.now k (pos 0)))) (add-zero a.place),
+      eight (λ i. stands (level_at c.args.levels.now i)),
       c.bit_of.ensures.0,
       c.bit_of-2.ensures.0,
       c.bit_of-3.ensures.0,

@@ -1,42 +1,35 @@
 -- `writer::write::put_map` meets its contract. Assumes nothing.
-use mathlib.Core.List.{List}
-use mathlib.Core.Path.{◌≡◌, refl, ◌∙◌}
-use Prim.Native.Nat.{ℕ, ◌+◌, ◌*◌, ◌/◌}
-use native.Mathlib.Nat.{add_assoc}
-use native.Mathlib.Omega.{arith}
-use lib.IntN.{ℤ}
-use Rattle.laws.proofs.Laid.{stores_laid}
-use Rattle.laws.proofs.Store.{stored_none, stored_turn, stored_all, stored_length}
+use Rattle.std.proofs.Common.{◌≡◌, ℕ, ◌+◌, ◌-◌, ◌*◌, ◌/◌, ◌^◌, ◌≤◌, cond, List, ℤ, length, get_or, take, drop, pos, refl, ap, ◌∙◌, arith}
+use Rattle.laws.proofs.Store.{stored_none, stored_turn}
+use Rattle.laws.proofs.Sum.{sum_ℕ_same}
+use Rattle.laws.specs.Store.{tab}
+use Rattle.format.proofs.Fill.{stored_tab}
 use Rattle.format.specs.Pieces.{packed, stands, map_of}
-use Rattle.writer.specs.Writing.{level_from}
-use Rattle.laws.proofs.Pasted.{pasted_laid}
-use Rattle.writer.proofs.write.put_map.Invariants.{map_byte}
+use Rattle.writer.specs.Writing.{level_at}
+use Rattle.writer.proofs.Blocks.{part_at}
 use Rattle.writer.proofs.write.put_map.Goals as goal
 
-byte_is : (levels : List ℤ) (place j : ℕ) → packed (λ i. stands (level_from levels (place + j * 8) i)) ≡ map_byte levels place j
-byte_is levels place j = simp add_assoc
+-- byte j of the map
+byte_is : (levels : List ℤ) (j : ℕ) → 8 * j + 8 ≤ length levels
+    → packed (λ i. stands (level_at (take (8 * j + 8 - 8 * j) (drop (8 * j) levels)) i)) ≡ packed (λ i. stands (level_at levels (j * 8 + i)))
+unfolding packed
+byte_is levels j room =
+    sum_ℕ_same 8 (λ i. cond (stands (level_at (take (8 * j + 8 - 8 * j) (drop (8 * j) levels)) i)) (2 ^ i) 0)
+    (λ i. cond (stands (level_at levels (j * 8 + i))) (2 ^ i) 0)
+    (λ i h. ap (λ (l : ℤ). cond (stands l) (2 ^ i) 0)
+    (part_at levels (8 * j) (8 * j + 8 - 8 * j) 8 (omega arith) room i h ∙ ap (λ (k : ℕ). get_or levels k (pos 0)) (omega arith)))
 
 pub loop-j-init : goal.loop-j-init
-loop-j-init c = (stored_none, omega arith)
-
-pub overflow_add-to : goal.overflow_add-to
-overflow_add-to c = omega (arith, stored_length c.loop-j.invariant.0)
-
-pub bounds-out-to : goal.bounds-out-to
-bounds-out-to c = omega (arith, stored_length c.loop-j.invariant.0)
+loop-j-init c = stored_none
 
 pub loop-j-preserved : goal.loop-j-preserved
 loop-j-preserved c =
-    let a = c.args in
-    (stored_turn c.loop-j.invariant.0 refl (c.map_byte-byte.ensures ∙ byte_is a.levels.now a.place c.loop-j.j), omega arith)
-
-pub shape_of-out : goal.shape_of-out
-shape_of-out c = stored_length c.loop-j.invariant.0
+    stored_turn c.loop-j.invariant refl (c.map_byte.ensures ∙ byte_is c.args.levels.now c.loop-j.j (omega (arith, c.requires, c.loop-j-test.true)))
 
 pub returns : goal.returns
 unfolding map_of
 returns c =
-    let a = c.args in
-    let g = map_byte a.levels.now a.place in
-    let done : c.loop-j.j ≡ a.n / 8 = omega arith in
-    stored_all {n = a.n / 8} c.loop-j.invariant.0 done ∙ stores_laid a.out.now a.at (a.n / 8) c.requires.2 0 g ∙ pasted_laid a.out.now a.at (a.n / 8) g
+    let n = length c.args.out.now in
+    let levels = c.args.levels.now in
+    let bytes : n ≡ length levels / 8 = omega (arith, c.requires) in
+    stored_tab n 0 c.loop-j.invariant (omega arith) refl ∙ ap (λ (k : ℕ). tab k (λ j. packed (λ i. stands (level_at levels (j * 8 + i))))) bytes

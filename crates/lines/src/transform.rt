@@ -1,0 +1,68 @@
+// The transform of a line, and of some lines from a start.
+ghost use Rattle.std.specs.Prelude.{◌≡◌, ◌<◌, ◌≤◌, ℕ, length};
+ghost use Rattle.laws.specs.Store.{stores};
+ghost use Rattle.lines.specs.Pass.{pass_at, pass_lines};
+ghost use Rattle.lines.specs.Room.{Room, LineRoom, on_line};
+
+use super::spaced::Source;
+
+pub trait Transform {
+    ghost kind: { Self → ℕ };
+
+    ghost side: { Self → ℕ };
+
+    // Line j of the source, transformed and stored as line `to` of dst.
+    fn line(&self, source: &Source<'_>, j: usize, dst: &mut [i32], to: usize)
+        requires { LineRoom (side self.now) source.now.lines j (length source.now.numbers.now) to (length dst.old) }
+        ensures { dst.new ≡ stores dst.old (side self.now) (on_line (side self.now) to) (pass_at (kind self.now) (side self.now) source.now.shift.bits source.now.lines source.now.numbers.now j) };
+}
+
+// Count lines from start on, each where it belongs.
+#[inline(always)]
+pub fn each_line<T: Transform>(
+    transform: &T,
+    source: &Source<'_>,
+    start: usize,
+    count: usize,
+    dst: &mut [i32],
+)
+    requires side { (0 < T.side transform.now) × (T.side transform.now ≤ 32) }
+    requires room { Room (T.side transform.now) source.now.lines start count (length source.now.numbers.now) (length dst.old) }
+    ensures { dst.new ≡ pass_lines (T.kind transform.now) (T.side transform.now) source.now.shift.bits source.now.lines source.now.numbers.now start count dst.old }
+{
+    // A copy, so that what is stored in dst can't be thought to change it.
+    let source = *source;
+    for i in 0..count {
+        let j = start + i;
+        transform.line(&source, j, dst, j);
+    }
+}
+
+// The same at side 8: four lines are staged and stored together, so that the compiler works on all four at once.
+#[inline(always)]
+pub fn by_fours<T: Transform>(
+    transform: &T,
+    source: &Source<'_>,
+    start: usize,
+    count: usize,
+    dst: &mut [i32],
+)
+    requires eight { T.side transform.now ≡ 8 }
+    requires room { Room 8 source.now.lines start count (length source.now.numbers.now) (length dst.old) }
+    ensures { dst.new ≡ pass_lines (T.kind transform.now) 8 source.now.shift.bits source.now.lines source.now.numbers.now start count dst.old }
+{
+    let source = *source;
+    let mut o = [0i32; 32];
+    let fours = count / 4;
+    for four in 0..fours {
+        let j = start + 4 * four;
+        for q in 0..4 {
+            transform.line(&source, j + q, &mut o, q);
+        }
+        dst[j * 8..j * 8 + 32].copy_from_slice(&o);
+    }
+    for i in 4 * fours..count {
+        let j = start + i;
+        transform.line(&source, j, dst, j);
+    }
+}

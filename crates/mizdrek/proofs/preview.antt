@@ -1,2 +1,0 @@
--- What the proofs of both previews use.
-mod Signed

@@ -1,6 +1,0 @@
--- `mizdrek::ticket::mizdrek_column_batch` meets its contract. Assumes nothing.
-use Rattle.mizdrek.proofs.Batch.{told_small}
-use Rattle.mizdrek.proofs.ticket.mizdrek_column_batch.Goals as goal
-
-pub signed-requires : goal.signed-requires
-signed-requires c = told_small _ _ _ _ _ c.column_batch.ensures
