@@ -10,10 +10,11 @@ ghost use Rattle.block.specs.Admitted.{admitted};
 ghost use Rattle.block.specs.Answer.{block_answer, scratch_after, output_after};
 
 use answer::{Outcome, Refusal};
-pub use shape::Shape;
+pub use shape::{Shape, kinds};
 use sizes::Size;
 
-// A block by its arguments alone, or why it is refused: scratch and output are the lengths of those buffers.
+// A block by its arguments alone, or why it is refused: scratch and output are the lengths of those buffers. Kinds are numbers in public calls, which
+// refuse any other by 2.
 #[tactic(auto, unfolding(crate::specs::Answer::block_answer, crate::specs::Answer::refusals, answer::specs::Answer::lowest), using(residual::proofs::Residual::slice_ok))]
 pub fn admit(
     w: usize,

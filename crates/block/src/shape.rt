@@ -13,6 +13,21 @@ use kernels::Kind;
 use lines::Source;
 use sizes::Size;
 
+// The kinds of the columns and of the rows of a block of any sides: number 2's rule.
+#[inline(always)]
+#[tactic(auto, unfolding(crate::specs::Answer::has_kinds))]
+pub fn kinds(w: usize, h: usize, column_kind: u32, row_kind: u32) -> Result<(Kind, Kind), Refusal>
+    ensures { MatchResult result (λ k. (kind_number k.0 ≡ column_kind) × (kind_number k.1 ≡ row_kind) × (has_kernel column_kind h ≡ true) × (has_kernel row_kind w ≡ true) × (has_kinds w h column_kind row_kind ≡ true)) (λ why. (why ≡ BadKind) × (has_kinds w h column_kind row_kind ≡ false)) }
+{
+    let columns = Kind::new(column_kind, h)?;
+    let rows = Kind::new(row_kind, w)?;
+    let dct = (column_kind == 0) & (row_kind == 0);
+    if !(dct | (w == h)) {
+        return Err(Refusal::BadKind);
+    }
+    Ok((columns, rows))
+}
+
 #[derive(Clone, Copy)]
 pub struct Shape {
     pub size: Size,
@@ -23,18 +38,11 @@ pub struct Shape {
 }
 
 impl Shape {
-    // Number 2's rule.
     #[inline(always)]
-    #[tactic(auto, unfolding(crate::specs::Answer::has_kinds))]
     pub fn new(size: Size, column_kind: u32, row_kind: u32) -> Result<Shape, Refusal>
         ensures { MatchResult result (λ s. (s.size.w ≡ size.w) × (s.size.h ≡ size.h) × (kind_number s.columns ≡ column_kind) × (kind_number s.rows ≡ row_kind) × (has_kinds size.w size.h column_kind row_kind ≡ true)) (λ why. (why ≡ BadKind) × (has_kinds size.w size.h column_kind row_kind ≡ false)) }
     {
-        let columns = Kind::new(column_kind, size.h)?;
-        let rows = Kind::new(row_kind, size.w)?;
-        let dct = (column_kind == 0) & (row_kind == 0);
-        if !(dct | (size.w == size.h)) {
-            return Err(Refusal::BadKind);
-        }
+        let (columns, rows) = kinds(size.w, size.h, column_kind, row_kind)?;
         Ok(Shape {
             size,
             columns,
@@ -72,7 +80,8 @@ impl Shape {
         }
     }
 
-    // Count lines of one of the passes: row lines from the scratch into the output, or column lines from the residuals into the scratch.
+    // Count lines of one of the passes: row lines from the scratch into the output, or column lines from the residuals into the scratch. The Bool is a
+    // batch's own, looked at once.
     #[inline(always)]
     pub fn lines(self, row: bool, start: usize, count: usize, source: &[i32], target: &mut [i32])
         requires { LinesRoom self.size.w self.size.h (start + count) (cond row self.size.h self.size.w) (cond row self.size.w self.size.h) (length source.now) (length target.old) }

@@ -1,5 +1,5 @@
 -- What the tests of one record come to. Assumes nothing.
-use Rattle.std.proofs.Common.{◌≡◌, ℕ, ◌+◌, ◌*◌, ◌/◌, ◌<◌, ◌≤◌, Bool, true, false, not, ◌||◌, ltb, List, length, nat_abs, get_or, sym, refl, ap, ◌∙◌, arith, le-ltb, lt-ltb}
+use Rattle.std.proofs.Common.{◌≡◌, ℕ, ◌+◌, ◌*◌, ◌/◌, ◌%◌, ◌<◌, ◌≤◌, Bool, true, false, not, ◌||◌, ltb, List, length, nat_abs, get_or, sym, refl, ap, ◌∙◌, arith, le-ltb, lt-ltb}
 use Rattle.answer.specs.Answer.{answers, refuses, lowest}
 use Rattle.answer.specs.Answer.{number_of}
 use Rattle.answer.specs.declared.Refusal.{Refusal}
@@ -26,6 +26,10 @@ length_most s = omega (arith, length_is s, count_most s, (sized_in s).most)
 
 pub whole_some : (s : List ℕ) → length_in s ≤ length s → 5 ≤ length s
 whole_some s h = omega (arith, length_some s, h)
+
+-- a whole record has room for its map
+pub map_room : (s : List ℕ) {n : ℕ} → n ≡ places_in s → length_in s ≤ length s → (n ≤ 1024) × (n % 8 ≡ 0) × (5 + n / 8 ≤ length s)
+map_room s e h = rw e ((sized_in s).most, (sized_in s).whole, omega (arith, length_is s, h))
 
 -- its places, by its side byte, and where it ends
 module _ (s : List ℕ) {n : ℕ} where

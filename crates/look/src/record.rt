@@ -4,8 +4,9 @@ ghost use Rattle.answer.specs.Answer.{answers, refuses, number_of};
 ghost use Rattle.answer.specs.declared.Refusal.TheVariants.{CutRecord};
 ghost use Rattle.format.specs.Pieces.{number_at, width_of, height_of};
 ghost use Rattle.format.specs.Format.{width_in, height_in, places_in, count_in, length_in, record_answer};
-ghost use Rattle.look.specs.Look.{listed_count, listed_sum};
+ghost use Rattle.look.specs.Look.{are_right, listed_count, listed_sum};
 
+use super::levels::Levels;
 use super::{bytes, levels};
 use answer::Refusal;
 use sizes::Size;
@@ -46,6 +47,21 @@ impl<'a> Whole<'a> {
         ensures { result ≡ places_in self.now.bytes.now }
     {
         self.size().places()
+    }
+
+    // How many levels are listed.
+    pub fn count(&self) -> usize
+        ensures { result ≡ listed_count self.now.bytes.now }
+    {
+        count_in(self.bytes, self.places())
+    }
+
+    // What they come to.
+    #[tactic(auto, using(crate::proofs::Looked::sum_is))]
+    pub fn levels(&self) -> Levels
+        ensures { (result.right ≡ are_right self.now.bytes.now (listed_count self.now.bytes.now)) × (result.magnitude ≡ listed_sum self.now.bytes.now) }
+    {
+        levels::sum_levels(self.bytes, 5 + self.places() / 8, self.count())
     }
 }
 
@@ -102,7 +118,10 @@ pub fn check_record(low: u64, s: &[u8]) -> Result<Record, Refusal>
     if s[4] >= 16 {
         return Err(Refusal::BadRecord);
     }
-    let magnitude = levels::sum_levels(s, list, count).ok_or(Refusal::BadRecord)?;
+    let sum = levels::sum_levels(s, list, count);
+    if !sum.right {
+        return Err(Refusal::BadRecord);
+    }
     let number = record.number();
     if u64::from(number) < low {
         return Err(Refusal::RecordOrder);
@@ -112,6 +131,6 @@ pub fn check_record(low: u64, s: &[u8]) -> Result<Record, Refusal>
         places,
         length: list + 4 * count,
         levels: count,
-        magnitude,
+        magnitude: sum.magnitude,
     })
 }

@@ -1,4 +1,4 @@
-// The functions of the C interface that look at a batch's lines: the ticket is lent to be read.
+// The functions of the C interface that look at a batch's lines, one for columns and one for rows: the ticket is lent to be read.
 ghost use Rattle.std.specs.Prelude.{true, false};
 ghost use Rattle.tickets.specs.Batch.{batch_of};
 ghost use Rattle.previews.specs.Preview.{preview_of};

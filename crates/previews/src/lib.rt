@@ -8,7 +8,7 @@ ghost use Rattle.previews.specs.Preview.{is_short, shows, preview_of};
 use answer::Outcome;
 use tickets::{Batch, Ticket};
 
-// How many numbers a line of a batch's kind has.
+// How many numbers a line of a batch's kind has, by its own Bool.
 #[inline(always)]
 fn line_length(t: Ticket, row: bool) -> usize
     ensures { result ≡ line_length t.w t.h row }

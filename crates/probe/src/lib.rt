@@ -1,4 +1,5 @@
-// What the comparison with the Rust looks at and the C interface leaves out: the kernel tables, the shifts, the plain pass and the lane passes.
+// What the comparison with the Rust looks at and the C interface leaves out: the kernel tables, the shifts, the plain pass and the lane passes. All is by
+// numbers, as C hands them over.
 #![tactic(auto)]
 
 ghost use Rattle.std.specs.Prelude.{◌≡◌, length};

@@ -20,7 +20,7 @@ pub(crate) fn max0(x: f32) -> f32
     if 0.0 < x { x } else { 0.0 }
 }
 
-// x where it is not below 1, and 1 otherwise. Of two that compare equal, `f32::max` may give either.
+// x where it is not below 1, and 1 otherwise. Written as `max0` is; `f32::max` is no plainer.
 fn at_least_one(x: f32) -> f32
     ensures { result ≡ cond (lt x one32) one32 x }
 {

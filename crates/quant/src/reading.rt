@@ -2,7 +2,7 @@
 ghost use Rattle.std.specs.Prelude.{◌≡◌, ◌≤◌};
 ghost use Rattle.quant.specs.Scan.{is_by_width, meant};
 
-// Whether places are row-major, by a width.
+// Whether places are row-major, and the width, which stands in either case.
 #[derive(Clone, Copy)]
 pub(crate) struct Reading {
     pub(crate) by_width: bool,

@@ -2,7 +2,6 @@
 // output.
 #![tactic(auto)]
 
-mod input;
 mod wording;
 
 use std::io;
@@ -10,7 +9,7 @@ use std::io;
 // A file is read up to one byte more than it may have; the longest text has 87 bytes.
 fn main(rt: HostRuntime) -> io::Result<()> {
     let mut bytes = [0u8; 65537];
-    let file = match input::read_file(&mut rt.reader(), &mut bytes) {
+    let file = match text::read_full(&mut rt.reader(), &mut bytes) {
         Ok(count) => Some(&bytes[..count]),
         Err(_) => None,
     };

@@ -1,7 +1,7 @@
 // Whole numbers by their sign and size.
 ghost use Rattle.std.specs.Prelude.{◌≡◌, false, cond, ◌<◌, ◌^◌, pos, neg_ℤ, IfSome};
 
-// A whole number of at most 18 digits; zeros in front don't count.
+// A whole number of at most 18 digits, by its sign and size; zeros in front don't count.
 #[derive(Clone, Copy)]
 pub struct Number {
     pub minus: bool,
@@ -36,7 +36,9 @@ impl Number {
     };
 
     // A word that is a number: a minus or none, and digits.
-    pub fn parse(word: &[u8]) -> Option<Number> {
+    pub fn parse(word: &[u8]) -> Option<Number>
+        ensures { IfSome result (λ n. n.size < 10 ^ 18) }
+    {
         let (minus, digits) = match word {
             [b'-', digits @ ..] => (true, digits),
             _ => (false, word),

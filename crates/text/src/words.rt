@@ -1,5 +1,5 @@
 // The words of a text, each between spaces and line ends.
-ghost use Rattle.std.specs.Prelude.{length};
+ghost use Rattle.std.specs.Prelude.{◌<◌, ◌^◌, length, IfSome};
 ghost use Rattle.std.specs.Iterator.{at_most};
 
 use super::Number;
@@ -35,7 +35,9 @@ impl<'a> Iterator for Words<'a> {
 
 impl<'a> Words<'a> {
     // The next word as a number.
-    pub fn number(&mut self) -> Option<Number> {
+    pub fn number(&mut self) -> Option<Number>
+        ensures { IfSome result (λ n. n.size < 10 ^ 18) }
+    {
         Number::parse(self.next()?)
     }
 }

@@ -183,7 +183,7 @@ pub fn with_batch(t: Ticket, b: Batch) -> Ticket
     }
 }
 
-// How many lines a block has of a batch's kind.
+// How many lines a block has of a batch's kind, by its own Bool.
 #[inline(always)]
 fn line_count(t: Ticket, row: bool) -> usize
     ensures { result ≡ line_count t.w t.h row }

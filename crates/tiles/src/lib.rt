@@ -1,4 +1,5 @@
-// The calls on a plane as the C interface makes them: the record is given and comes back by value, and the answer is one signed number.
+// The calls on a plane as the C interface makes them: the record is given and comes back by value, and the answer is one signed number. C has a call for
+// the columns and one for the rows; rooms and kinds are its numbers.
 #![tactic(auto)]
 
 ghost use Rattle.std.specs.Prelude.{◌≡◌, true, false, T, length};

@@ -3,8 +3,8 @@ use Rattle.std.proofs.Common.{arith}
 use Rattle.look.proofs.Looked.{listed_room}
 use Rattle.look.proofs.record.check_record.Goals as goal
 
-pub sum_levels-requires : goal.sum_levels-requires
-sum_levels-requires c = let h = c.in_ok-count.ensures in listed_room c.args.s.now c.places-places.ensures h.1 h.0
+pub sum_levels-sum-requires : goal.sum_levels-sum-requires
+sum_levels-sum-requires c = let h = c.in_ok-count.ensures in listed_room c.args.s.now c.places-places.ensures h.1 h.0
 
 pub overflow_mul-result : goal.overflow_mul-result
 overflow_mul-result c = let h = c.in_ok-count.ensures in omega (arith, listed_room c.args.s.now c.places-places.ensures h.1 h.0)
