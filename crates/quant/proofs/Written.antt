@@ -3,11 +3,11 @@ use mathlib.Core.Path.{◌≡◌, refl, sym, ap, ◌∙◌}
 use mathlib.Core.Bool.{Bool, true, false, not, cond}
 use Prim.Native.Nat.{ℕ}
 use lib.Dec.{T}
-use lib.IntN.{ℤ}
+use lib.IntN.{ℤ, pos}
 use lib.Ieee.{Float, nan, inf, fin, neg, binary32, add, mul, le, lt, is_nan}
 use lib.Ieee.Scale.{finite}
-use Rattle.std.specs.Float.{float_with_sign, is_sign_negative}
-use Rattle.quant.specs.Float.{zero32, one32, abs_of, sign_of, max0_of, plain, round_of}
+use Rattle.std.specs.Float.{is_sign_negative}
+use Rattle.quant.specs.Float.{zero32, abs_of, sign_of, max0_of, plain, round_of}
 use Rattle.quant.specs.Level.{product_of, whole_of, level_of, magnitude_at, level_at, IsScale, magnitude_by, level_by}
 use Rattle.quant.specs.Settings.{coefficient_ok}
 use Rattle.quant.proofs.Ranges.{coefficient_size, in_float_lem}
@@ -40,12 +40,12 @@ module _ (threshold bias p a : Float) (is : a ≡ abs_of p) where
       let short : le threshold (abs_of p) ≡ false = cc in
       sym (ap (λ (b : Bool). cond b (whole_of bias p) zero32) short)
 
--- 1 with p's sign
-pub one_signed : (p : Float) → T (not (is_nan p)) → float_with_sign (is_sign_negative p) one32 ≡ sign_of p
-unfolding is_nan float_with_sign is_sign_negative
-one_signed nan n = absurd n
-one_signed (inf s) n = refl
-one_signed (fin s m e) n = refl
+-- 1 with p's sign, by the sign's bit
+pub one_signed : (p : Float) (s : Bool) → T (not (is_nan p)) → is_sign_negative p ≡ s → fin s 1 (pos 0) ≡ sign_of p
+unfolding is_nan is_sign_negative
+one_signed nan s n e = absurd n
+one_signed (inf t) s n e = ap (λ (u : Bool). fin u 1 (pos 0)) (sym e)
+one_signed (fin t m k) s n e = ap (λ (u : Bool). fin u 1 (pos 0)) (sym e)
 
 -- x without its sign, by the sign's bit
 pub turned : (x : Float) → is_sign_negative x ≡ true → neg x ≡ abs_of x

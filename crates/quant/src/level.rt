@@ -78,7 +78,7 @@ impl Scale {
         let magnitude = float::abs(product);
         if magnitude >= self.threshold {
             let whole = float::round_half_up(float::max0(magnitude + self.bias));
-            let level = 1.0f32.copysign(product) * whole;
+            let level = float::sign(product) * whole;
             return Written { level, magnitude };
         }
         Written {

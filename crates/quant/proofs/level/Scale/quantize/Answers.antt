@@ -12,7 +12,7 @@ use Rattle.quant.specs.Level.{product_of}
 use Rattle.quant.specs.Settings.{coefficient_ok}
 use Rattle.quant.specs.declared.level.Scale.{Scale}
 use Rattle.quant.proofs.Ranges.{coefficient_size, in_float_lem}
-use Rattle.quant.proofs.Written.{max0_plain, level_kept, level_dropped, one_signed, accepted_number}
+use Rattle.quant.proofs.Written.{max0_plain, level_kept, level_dropped, accepted_number}
 use Rattle.quant.proofs.level.Scale.quantize.Goals as goal
 
 -- the product, read back from the coefficient's bits
@@ -34,8 +34,8 @@ abs-magnitude-requires c = number c.args.self c.args.coefficient c.ranges.coeffi
 pub round_half_up-whole-requires : goal.round_half_up-whole-requires
 round_half_up-whole-requires c = subst (λ (y : Float). T (plain y)) (sym c.max0.ensures) (max0_plain _)
 
-pub copysign-requires : goal.copysign-requires
-copysign-requires c = number c.args.self c.args.coefficient c.ranges.coefficient c.requires
+pub sign-requires : goal.sign-requires
+sign-requires c = number c.args.self c.args.coefficient c.ranges.coefficient c.requires
 
 pub returns-then-magnitude-self : goal.returns-then-magnitude-self
 unfolding of_bits
@@ -43,7 +43,7 @@ returns-then-magnitude-self c =
     let a = c.args in
     let e = same a.self a.coefficient c.ranges.coefficient in
     let magnitude = c.abs-magnitude.ensures ∙ ap abs_of e in
-    let sign = c.copysign.ensures ∙ one_signed _ (number a.self a.coefficient c.ranges.coefficient c.requires) ∙ ap sign_of e in (
+    let sign = c.sign.ensures ∙ ap sign_of e in (
       level_kept a.self.threshold a.self.bias (product_of a.self.inverse a.coefficient) _ magnitude c.max0.result _ _ c.if-magnitude-self.true c.max0.ensures
           c.round_half_up-whole.ensures sign,
       magnitude,
