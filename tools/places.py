@@ -89,7 +89,6 @@ for path in sorted(glob.glob(f'{root}/crates/*/src/**/*.rt', recursive=True)):
             found['7 switches'].append(f.where())
 
 # 2: functions alike but for names, numbers and types
-words = r'\b(fn|pub|let|mut|if|else|while|for|in|return|match|Ok|Err|as|true|false|struct|impl|self)\b'
 alike = defaultdict(list)
 for f in functions:
     if f.of_c or f.body.count('\n') < 3:

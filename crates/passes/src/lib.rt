@@ -41,7 +41,8 @@ pub struct ValidPass {
     pub shift: Shift,
 }
 
-// A pass by its arguments alone, or why it is refused: src and dst are the lengths of those buffers.
+// A pass by its arguments alone, or why it is refused: src and dst are the lengths of those buffers. Kinds are numbers in public calls, which refuse any
+// other by 2.
 #[tactic(auto, unfolding(crate::specs::Answer::pass_answer, answer::specs::Answer::lowest))]
 pub fn admit(
     side: usize,
@@ -97,7 +98,8 @@ fn run_plain(side: usize, kind: Kind, source: &Source<'_>, line: usize, dst: &mu
     }
 }
 
-// The same, with one DCT for every side.
+// The same, with one DCT for every side. A function of both that takes the run as a closure would have to say of it what the contract of `run_plain`
+// says, and would be no plainer.
 pub fn plain(
     side: usize,
     kind: u32,
