@@ -1,6 +1,6 @@
 // The DCT of a line by stages, each of which folds the line to half its length. There is a function for each length, flat, since the lengths
 // are known as it is compiled and no loop is left over: Rattle computes no const argument, so one function can't call itself at half a const
-// length, and `passes::plain`, the loop over lengths known at run time, is many times slower.
+// length, and `passes::plain`, the recursion over lengths known at run time, is many times slower.
 ghost use Rattle.std.specs.Prelude.{◌≡◌, true, length};
 ghost use Rattle.sizes.specs.Size.{is_side};
 ghost use Rattle.lines.specs.Stage.{IsKernel, Staging, Completes};

@@ -315,7 +315,8 @@ pub fn tile_columns(
     plane.after(change)
 }
 
-// Lines of w numbers into a plane that is width numbers wide: the first to place x, y, each next one a row below.
+// Lines of w numbers into a plane that is width numbers wide: the first to place x, y, each next one a row below. Widths are numbers of a place here,
+// and no buffer's lengths.
 fn put_lines(
     from: &[i32],
     w: usize,

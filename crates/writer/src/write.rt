@@ -117,7 +117,7 @@ fn put_record(number: u32, size: Size, levels: &[i32], out: &mut [u8]) -> usize
     end
 }
 
-// The records of blocks that are right and have room. Gives back how many bytes there are.
+// The records of blocks that are right and have room; how many blocks is C's own number, beside its buffers. Gives back how many bytes there are.
 fn put_records(
     count: usize,
     numbers: &[u32],
