@@ -12,7 +12,8 @@
  * A pointer must be aligned and not null, even at length 0, and nothing that a call writes may overlap anything else that
  * it is lent.
  *
- * Kinds. 0 is the DCT, 1 the ADST. The ADST has sides 4, 8 and 16, and in a block both sides must then be the same.
+ * Kinds. 0 is the DCT, 1 the ADST. The ADST has sides 4, 8 and 16, and in a block both sides must then be the same. The
+ * ADST's 64 numbers of side 8 are reconstructed, since the repository's could not be had (docs/DIFFERENCES.md).
  *
  * Threads. No call keeps anything, so any number of them may run at once on different buffers. The calls on one plane must
  * not run at the same time.
@@ -114,46 +115,46 @@ int64_t mizdrek_open(size_t w, size_t h, uint32_t column_kind, uint32_t row_kind
                      struct mizdrek_ticket *ticket);
 
 /*
- * Works out 1, 4 or 8 columns from column `start` on, into scratch, marks them in *ticket and answers `lines`. Column j is
+ * Works out 1, 4 or 8 columns from column `start` on, into scratch, marks them in *ticket and answers `count`. Column j is
  * the h numbers of scratch from place j * h on. The residuals' range is not tested here: sums wrap at 32 bits.
  */
 int64_t mizdrek_column_batch(struct mizdrek_ticket *ticket,
                              const int32_t *residuals, size_t residuals_len,
                              int32_t *scratch, size_t scratch_len,
-                             size_t start, size_t lines);
+                             size_t start, size_t count);
 
 /*
  * Works out 1, 4 or 8 rows from row `start` on, into output, once all columns are marked; marks them in *ticket and
- * answers `lines`. Row j is the w numbers of output from place j * w on.
+ * answers `count`. Row j is the w numbers of output from place j * w on.
  */
 int64_t mizdrek_row_batch(struct mizdrek_ticket *ticket,
                           const int32_t *scratch, size_t scratch_len,
                           int32_t *output, size_t output_len,
-                          size_t start, size_t lines);
+                          size_t start, size_t count);
 
 /*
- * Shows the columns that mizdrek_column_batch would write to scratch with the same arguments, and answers `lines`. Writes
- * lines * h numbers of preview: column start + i is the h numbers from place i * h on. The ticket, the residuals and
+ * Shows the columns that mizdrek_column_batch would write to scratch with the same arguments, and answers `count`. Writes
+ * count * h numbers of preview: column start + i is the h numbers from place i * h on. The ticket, the residuals and
  * scratch are only read. Refuses what the batch refuses, and gives MIZDREK_SHORT_BUFFER also where preview holds fewer
- * than lines * h numbers; that is only tested for 1, 4 or 8 lines, as any other count is refused in any case.
+ * than count * h numbers; that is only tested for 1, 4 or 8 lines, as any other count is refused in any case.
  */
 int64_t mizdrek_preview_columns(const struct mizdrek_ticket *ticket,
                                 const int32_t *residuals, size_t residuals_len,
                                 const int32_t *scratch, size_t scratch_len,
                                 int32_t *preview, size_t preview_len,
-                                size_t start, size_t lines);
+                                size_t start, size_t count);
 
 /*
- * Shows the rows that mizdrek_row_batch would write to output with the same arguments, and answers `lines`. Writes
- * lines * w numbers of preview: row start + i is the w numbers from place i * w on. The ticket, scratch and output are
- * only read. Refuses what the batch refuses, and gives MIZDREK_SHORT_BUFFER also where preview holds fewer than lines * w
+ * Shows the rows that mizdrek_row_batch would write to output with the same arguments, and answers `count`. Writes
+ * count * w numbers of preview: row start + i is the w numbers from place i * w on. The ticket, scratch and output are
+ * only read. Refuses what the batch refuses, and gives MIZDREK_SHORT_BUFFER also where preview holds fewer than count * w
  * numbers; that is only tested for 1, 4 or 8 lines, as for columns.
  */
 int64_t mizdrek_preview_rows(const struct mizdrek_ticket *ticket,
                              const int32_t *scratch, size_t scratch_len,
                              const int32_t *output, size_t output_len,
                              int32_t *preview, size_t preview_len,
-                             size_t start, size_t lines);
+                             size_t start, size_t count);
 
 /* One of a plane's 16 tiles. It is open where `opened` isn't 0; a closed one may hold anything. */
 struct mizdrek_tile {
@@ -199,24 +200,24 @@ int64_t mizdrek_close_tile(struct mizdrek_plane *plane, uint32_t room, size_t ti
 
 /*
  * Works out 1, 4 or 8 columns of a tile of the room, as mizdrek_column_batch does, from the tile's residuals into its
- * scratch, marks them in the tile's ticket and answers `lines`. Refused by the first that applies of MIZDREK_BAD_TILE,
+ * scratch, marks them in the tile's ticket and answers `count`. Refused by the first that applies of MIZDREK_BAD_TILE,
  * MIZDREK_TILE_NOT_OPEN, MIZDREK_SHORT_BUFFER and MIZDREK_BATCH_RANGE.
  */
 int64_t mizdrek_tile_columns(struct mizdrek_plane *plane, uint32_t room, size_t tile,
                              const int32_t *residuals, size_t residuals_len,
                              int32_t *scratch, size_t scratch_len,
-                             size_t start, size_t lines);
+                             size_t start, size_t count);
 
 /*
  * Works out 1, 4 or 8 rows of a tile of the room, as mizdrek_row_batch does, from the tile's scratch into the plane's
- * output, marks them in the tile's ticket and answers `lines`. Row j is the tile's numbers of output from place
+ * output, marks them in the tile's ticket and answers `count`. Row j is the tile's numbers of output from place
  * (y + j) * plane->w + x on; no other number of output changes. Refused by the first that applies of MIZDREK_BAD_TILE,
  * MIZDREK_TILE_NOT_OPEN, MIZDREK_SHORT_BUFFER, MIZDREK_BATCH_RANGE and MIZDREK_BATCH_ORDER.
  */
 int64_t mizdrek_tile_rows(struct mizdrek_plane *plane, uint32_t room, size_t tile,
                           const int32_t *scratch, size_t scratch_len,
                           int32_t *output, size_t output_len,
-                          size_t start, size_t lines);
+                          size_t start, size_t count);
 
 /* The 4x4 Walsh-Hadamard transform of 16 residuals from -4095 to 4095. Writes 16 numbers of output and answers 16. */
 int64_t mizdrek_fwht4x4(const int32_t *residuals, size_t residuals_len,

@@ -125,20 +125,20 @@ struct work {
     struct mizdrek_ticket ticket, before;
 };
 
-static int64_t preview_columns(struct work *work, size_t preview_len, size_t start, size_t lines)
+static int64_t preview_columns(struct work *work, size_t preview_len, size_t start, size_t count)
 {
     fill(work->preview, 33, 7);
     work->before = work->ticket;
     return mizdrek_preview_columns(&work->ticket, work->residuals, 32, work->scratch, 32,
-                                   work->preview, preview_len, start, lines);
+                                   work->preview, preview_len, start, count);
 }
 
-static int64_t preview_rows(struct work *work, size_t preview_len, size_t start, size_t lines)
+static int64_t preview_rows(struct work *work, size_t preview_len, size_t start, size_t count)
 {
     fill(work->preview, 33, 7);
     work->before = work->ticket;
     return mizdrek_preview_rows(&work->ticket, work->scratch, 32, work->output, 32,
-                                work->preview, preview_len, start, lines);
+                                work->preview, preview_len, start, count);
 }
 
 /* The ticket is as before, and of preview no more than the first `written` numbers have changed. */
@@ -234,10 +234,10 @@ static int64_t close_tile(struct frame *frame, uint32_t room, size_t tile)
     return mizdrek_close_tile(&frame->plane, room, tile);
 }
 
-static int64_t tile_columns(struct frame *frame, uint32_t room, size_t tile, size_t lines)
+static int64_t tile_columns(struct frame *frame, uint32_t room, size_t tile, size_t count)
 {
     frame->before = frame->plane;
-    return mizdrek_tile_columns(&frame->plane, room, tile, frame->residuals, 32, frame->scratch + tile % 2 * 32, 32, 0, lines);
+    return mizdrek_tile_columns(&frame->plane, room, tile, frame->residuals, 32, frame->scratch + tile % 2 * 32, 32, 0, count);
 }
 
 static int64_t tile_rows(struct frame *frame, uint32_t room, size_t tile, size_t output_len)

@@ -4,7 +4,7 @@ pub const USAGE: &str = "\
 compare [check] [--seed N] [--count N] [GROUP..]   compare both sides on the same inputs
 compare bench [GROUP..]                            time both sides, print the ratios
 compare vectors [--seed N]                         write the Rust's answers that `vectors` replays
-groups: tables passes blocks tickets planes records wht quant; to time: also refused previews, not tables";
+groups: tables passes blocks tickets planes records wht quant choice; to time: also refused previews, not tables";
 
 pub enum Mode {
     Check,

@@ -26,9 +26,9 @@ pub fn rows() {
             let (side, kind, shift) = black_box((side, kind, SHIFT));
             let _ = black_box(mizdrek::pass(side, kind, shift, LINES, black_box(&src), black_box(&mut dst)));
         });
-        let lanes = |lines, dst: &mut [i32]| {
-            let (kernel, lines) = black_box(((side, kind, SHIFT), lines));
-            let _ = black_box(ours::lanes(kernel, (LINES, 0, lines), black_box(&src), black_box(dst)));
+        let lanes = |count, dst: &mut [i32]| {
+            let (kernel, count) = black_box(((side, kind, SHIFT), count));
+            let _ = black_box(ours::lanes(kernel, (LINES, 0, count), black_box(&src), black_box(dst)));
         };
         let mut rest = vec![0; side * LINES];
         row_without(

@@ -40,32 +40,32 @@ pub fn rows() {
     for ((w, h), kind) in BLOCKS {
         let ticket = Ticket { w, h, column_kind: kind, row_kind: kind, columns: first_lines(w), rows: 0 };
         let kind = if kind == ADST { "ADST" } else { "DCT" };
-        for (direction, count) in [(COLUMNS, w), (ROWS, h)] {
-            for lines in [1, 4, 8].into_iter().filter(|&lines| lines <= count) {
-                let label = format!("{lines} of {count} {}, {w}x{h} {kind}", direction.name);
-                last_lines(&label, &direction, ticket, count, lines);
+        for (direction, lines) in [(COLUMNS, w), (ROWS, h)] {
+            for count in [1, 4, 8].into_iter().filter(|&count| count <= lines) {
+                let label = format!("{count} of {lines} {}, {w}x{h} {kind}", direction.name);
+                last_lines(&label, &direction, ticket, lines, count);
             }
         }
     }
 }
 
-/// Times the last `lines` of `count` lines.
-fn last_lines(label: &str, direction: &Direction, ticket: Ticket, count: usize, lines: usize) {
+/// Times the last `count` of `lines` lines.
+fn last_lines(label: &str, direction: &Direction, ticket: Ticket, lines: usize, count: usize) {
     let numbers = ticket.w * ticket.h;
     let given = residuals(&mut Random::new(5), numbers, RESIDUAL_LIMIT);
     let (mut marked, mut target) = (ticket, vec![0; numbers]);
-    let (lent, mut preview) = (vec![0; numbers], vec![0; numbers / count * lines]);
+    let (lent, mut preview) = (vec![0; numbers], vec![0; numbers / lines * count]);
     row(
         label,
         || {
-            let (start, lines) = black_box((count - lines, lines));
+            let (start, count) = black_box((lines - count, count));
             let (ticket, given, target) = black_box((&mut marked, &given, &mut target));
-            _ = black_box((direction.batch)(ticket, given, target, start, lines));
+            _ = black_box((direction.batch)(ticket, given, target, start, count));
         },
         || {
-            let (start, lines) = black_box((count - lines, lines));
+            let (start, count) = black_box((lines - count, count));
             let (ticket, given, lent, preview) = black_box((&ticket, &given, &lent, &mut preview));
-            _ = black_box((direction.preview)(ticket, given, lent, preview, start, lines));
+            _ = black_box((direction.preview)(ticket, given, lent, preview, start, count));
         },
     );
 }

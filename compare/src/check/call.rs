@@ -22,7 +22,7 @@ impl Call {
 
     /// Previews a batch of a block of this size, into a buffer with the room for it or, at times, without.
     pub fn preview(random: &mut Random, batch: Batch, size: (usize, usize)) -> Call {
-        let count = batch.lines.min(8) * batch.side(size).min(32);
+        let count = batch.count.min(8) * batch.side(size).min(32);
         Call { batch, room: Some(length(random, count, 4)) }
     }
 
@@ -45,14 +45,14 @@ impl Call {
         output: &mut Lent<i32>,
         preview: &mut Lent<i32>,
     ) -> Result<usize, Refusal> {
-        let Batch { row, start, lines } = self.batch;
+        let Batch { row, start, count } = self.batch;
         let (given, shown) = (residuals.read(), preview.write());
         let answer = match (self.room, row) {
-            (None, false) => mizdrek::column_batch(ticket, given, scratch.write(), start, lines),
-            (None, true) => mizdrek::row_batch(ticket, scratch.read(), output.write(), start, lines),
-            (Some(_), false) => mizdrek::preview_columns(ticket, given, scratch.read(), shown, start, lines),
+            (None, false) => mizdrek::column_batch(ticket, given, scratch.write(), start, count),
+            (None, true) => mizdrek::row_batch(ticket, scratch.read(), output.write(), start, count),
+            (Some(_), false) => mizdrek::preview_columns(ticket, given, scratch.read(), shown, start, count),
             (Some(_), true) => {
-                mizdrek::preview_rows(ticket, scratch.read(), output.read(), shown, start, lines)
+                mizdrek::preview_rows(ticket, scratch.read(), output.read(), shown, start, count)
             }
         };
         // The compiler may take what is lent to be read to be as before: the comparison is to look again.
@@ -74,10 +74,10 @@ impl Call {
         all: &[i32],
     ) -> Vec<i32> {
         let mut preview = self.preview_before();
-        if let (Some(_), Ok(lines)) = (self.room, outcome) {
+        if let (Some(_), Ok(count)) = (self.room, outcome) {
             let side = self.batch.side(size);
             let place = self.batch.start * side;
-            preview[..lines * side].copy_from_slice(&all[place..place + lines * side]);
+            preview[..count * side].copy_from_slice(&all[place..place + count * side]);
         }
         preview
     }
@@ -85,7 +85,7 @@ impl Call {
 
 /// A batch that may be good or bad in any way.
 pub fn any_batch(random: &mut Random) -> Batch {
-    let lines = match random.below(8) {
+    let count = match random.below(8) {
         0 => random.below(40),
         1 => random.pick(&[0, usize::MAX, usize::MAX - 3, 1 << 63]),
         _ => random.pick(&[1, 4, 8]),
@@ -95,5 +95,5 @@ pub fn any_batch(random: &mut Random) -> Batch {
         1 => random.pick(&[usize::MAX, usize::MAX - 3, usize::MAX - 7, 1 << 63, 32]),
         _ => random.below(8) * 4,
     };
-    Batch { row: random.once_in(2), start, lines }
+    Batch { row: random.once_in(2), start, count }
 }

@@ -43,7 +43,7 @@ impl<'a> Claim<'a> {
         if batch.row && self.covered(false, i) != first_lines(w) {
             return Err(BatchOrder);
         }
-        Ok(batch.lines)
+        Ok(batch.count)
     }
 
     pub fn outcome(&self, i: usize) -> Result<usize, Refusal> {

@@ -11,9 +11,9 @@ struct Case {
     side: usize,
     kind: u32,
     shift: i32,
-    line: usize,
-    start: usize,
     lines: usize,
+    start: usize,
+    count: usize,
     src: Vec<i32>,
     dst: Vec<i32>,
 }
@@ -37,9 +37,9 @@ pub fn compare(run: &mut Run) -> Outcome {
 /// Line count, start and number of lines, wherever they lie within the line count.
 fn places() -> Vec<(usize, usize, usize)> {
     let mut places = Vec::new();
-    for line in SIDES {
-        for lines in [1, 4, 8] {
-            places.extend((0..(line + 1).saturating_sub(lines)).map(|start| (line, start, lines)));
+    for lines in SIDES {
+        for count in [1, 4, 8] {
+            places.extend((0..(lines + 1).saturating_sub(count)).map(|start| (lines, start, count)));
         }
     }
     places
@@ -48,28 +48,28 @@ fn places() -> Vec<(usize, usize, usize)> {
 fn random_case(
     run: &mut Run,
     (side, kind): (usize, u32),
-    (line, start, lines): (usize, usize, usize),
+    (lines, start, count): (usize, usize, usize),
 ) -> Outcome {
     run.case();
     let random = &mut run.random;
     let shift = random.within(1, 15) as i32;
     let more = random.pick(&[0, 0, 9]);
-    let src = samples(random, side * line + more);
-    let dst = filling(random, side * line + more);
-    let case = Case { side, kind, shift, line, start, lines, src, dst };
+    let src = samples(random, side * lines + more);
+    let dst = filling(random, side * lines + more);
+    let case = Case { side, kind, shift, lines, start, count, src, dst };
     case.compare().map_err(|d| d.of("probe_lanes", &case.inputs()))
 }
 
 impl Case {
     fn compare(&self) -> Outcome {
-        let Case { side, kind, shift, line, start, lines, .. } = *self;
+        let Case { side, kind, shift, lines, start, count, .. } = *self;
         let src = Lent::new(&self.src);
         let mut dst = Lent::new(&self.dst);
-        let answer = ours::lanes((side, kind, shift), (line, start, lines), src.read(), dst.write());
+        let answer = ours::lanes((side, kind, shift), (lines, start, count), src.read(), dst.write());
         src.holds("src", &self.src)?;
-        same("the answer", Ok(lines), answer)?;
-        let all = oracle::pass(side, kind, shift, line, &self.src);
-        let (first, end) = (start * side, (start + lines) * side);
+        same("the answer", Ok(count), answer)?;
+        let all = oracle::pass(side, kind, shift, lines, &self.src);
+        let (first, end) = (start * side, (start + count) * side);
         let mut expected = self.dst.clone();
         expected[first..end].copy_from_slice(&all[first..end]);
         dst.holds("dst", &expected)
@@ -80,9 +80,9 @@ impl Case {
             ("side", &self.side),
             ("kind", &self.kind),
             ("shift", &self.shift),
-            ("line", &self.line),
-            ("start", &self.start),
             ("lines", &self.lines),
+            ("start", &self.start),
+            ("count", &self.count),
             ("src", &self.src),
             ("dst before", &self.dst),
         ]

@@ -32,9 +32,9 @@ fn faults(run: &mut Run) -> Outcome {
     let ranges =
         [(0, 4), (0, 1), (1, 4), (4, 8), (usize::MAX, 1), (0, 0), (0, 2), (usize::MAX - 3, 4), (0, 8)];
     for ticket in tickets() {
-        for (start, lines) in ranges {
+        for (start, count) in ranges {
             for row in [false, true] {
-                all_calls(run, ticket, Batch { row, start, lines })?;
+                all_calls(run, ticket, Batch { row, start, count })?;
             }
         }
     }
@@ -59,7 +59,7 @@ fn tickets() -> Vec<Ticket> {
 fn all_calls(run: &mut Run, ticket: Ticket, batch: Batch) -> Outcome {
     let count = ticket.w.saturating_mul(ticket.h).min(1024);
     let short = count.saturating_sub(1);
-    let room = batch.lines * batch.side((ticket.w, ticket.h)).min(32);
+    let room = batch.count * batch.side((ticket.w, ticket.h)).min(32);
     let rooms = [None, Some(room.saturating_sub(1)), Some(room), Some(room + 5)];
     for lengths in [[count; 3], [short, count, count], [count, short, count], [count, count, short]] {
         for room in rooms {

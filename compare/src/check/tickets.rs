@@ -98,15 +98,15 @@ fn with_previews(random: &mut Random, size: (usize, usize), batches: &[Batch]) -
     calls
 }
 
-/// Batches that cover `count` lines once, in any order.
-fn cover(random: &mut Random, row: bool, count: usize) -> Vec<Batch> {
+/// Batches that cover `lines` lines once, in any order.
+fn cover(random: &mut Random, row: bool, lines: usize) -> Vec<Batch> {
     let mut list: Vec<Batch> = Vec::new();
     let mut start = 0;
-    while start < count {
-        let batch = Batch { row, start, lines: random.pick(&[1, 4, 8]) };
-        if batch.within(count) {
+    while start < lines {
+        let batch = Batch { row, start, count: random.pick(&[1, 4, 8]) };
+        if batch.within(lines) {
             list.insert(random.below(list.len() + 1), batch);
-            start += batch.lines;
+            start += batch.count;
         }
     }
     list

@@ -62,7 +62,7 @@ unsafe extern "C" {
         scratch: *mut i32,
         scratch_len: usize,
         start: usize,
-        lines: usize,
+        count: usize,
     ) -> i64;
     fn mizdrek_tile_rows(
         plane: *mut Plane,
@@ -73,7 +73,7 @@ unsafe extern "C" {
         output: *mut i32,
         output_len: usize,
         start: usize,
-        lines: usize,
+        count: usize,
     ) -> i64;
 }
 
@@ -119,7 +119,7 @@ pub fn close_tile(plane: &mut Plane, room: u32, tile: usize) -> Result<usize, Re
     read(unsafe { mizdrek_close_tile(plane, room, tile) })
 }
 
-/// Works out `lines` columns of a tile from `start` into its scratch and marks them. Answers the number of
+/// Works out `count` columns of a tile from `start` into its scratch and marks them. Answers the number of
 /// lines.
 pub fn tile_columns(
     plane: &mut Plane,
@@ -127,15 +127,15 @@ pub fn tile_columns(
     residuals: &[i32],
     scratch: &mut [i32],
     start: usize,
-    lines: usize,
+    count: usize,
 ) -> Result<usize, Refusal> {
     let (given, given_len) = (residuals.as_ptr(), residuals.len());
     let (into, length) = (scratch.as_mut_ptr(), scratch.len());
     // Each pointer goes with its own slice's length; the record is one struct of C's layout.
-    read(unsafe { mizdrek_tile_columns(plane, room, tile, given, given_len, into, length, start, lines) })
+    read(unsafe { mizdrek_tile_columns(plane, room, tile, given, given_len, into, length, start, count) })
 }
 
-/// Works out `lines` rows of a tile from `start` into its places in output and marks them. Answers the
+/// Works out `count` rows of a tile from `start` into its places in output and marks them. Answers the
 /// number of lines.
 pub fn tile_rows(
     plane: &mut Plane,
@@ -143,10 +143,10 @@ pub fn tile_rows(
     scratch: &[i32],
     output: &mut [i32],
     start: usize,
-    lines: usize,
+    count: usize,
 ) -> Result<usize, Refusal> {
     let (given, given_len) = (scratch.as_ptr(), scratch.len());
     let (into, length) = (output.as_mut_ptr(), output.len());
     // Each pointer goes with its own slice's length; the record is one struct of C's layout.
-    read(unsafe { mizdrek_tile_rows(plane, room, tile, given, given_len, into, length, start, lines) })
+    read(unsafe { mizdrek_tile_rows(plane, room, tile, given, given_len, into, length, start, count) })
 }

@@ -13,7 +13,7 @@ unsafe extern "C" {
         preview: *mut i32,
         preview_len: usize,
         start: usize,
-        lines: usize,
+        count: usize,
     ) -> i64;
     fn mizdrek_preview_rows(
         ticket: *const Ticket,
@@ -24,7 +24,7 @@ unsafe extern "C" {
         preview: *mut i32,
         preview_len: usize,
         start: usize,
-        lines: usize,
+        count: usize,
     ) -> i64;
 }
 
@@ -36,7 +36,7 @@ pub fn preview_columns(
     scratch: &[i32],
     preview: &mut [i32],
     start: usize,
-    lines: usize,
+    count: usize,
 ) -> Result<usize, Refusal> {
     // Each pointer goes with its own slice's length; the ticket is one struct of C's layout.
     read(unsafe {
@@ -49,7 +49,7 @@ pub fn preview_columns(
             preview.as_mut_ptr(),
             preview.len(),
             start,
-            lines,
+            count,
         )
     })
 }
@@ -62,7 +62,7 @@ pub fn preview_rows(
     output: &[i32],
     preview: &mut [i32],
     start: usize,
-    lines: usize,
+    count: usize,
 ) -> Result<usize, Refusal> {
     // Each pointer goes with its own slice's length; the ticket is one struct of C's layout.
     read(unsafe {
@@ -75,7 +75,7 @@ pub fn preview_rows(
             preview.as_mut_ptr(),
             preview.len(),
             start,
-            lines,
+            count,
         )
     })
 }

@@ -36,7 +36,7 @@ unsafe extern "C" {
         scratch: *mut i32,
         scratch_len: usize,
         start: usize,
-        lines: usize,
+        count: usize,
     ) -> i64;
     fn mizdrek_row_batch(
         ticket: *mut Ticket,
@@ -45,7 +45,7 @@ unsafe extern "C" {
         output: *mut i32,
         output_len: usize,
         start: usize,
-        lines: usize,
+        count: usize,
     ) -> i64;
 }
 
@@ -76,30 +76,30 @@ pub fn open(
     })
 }
 
-/// Works out `lines` columns from `start` into scratch and marks them. Answers the number of lines.
+/// Works out `count` columns from `start` into scratch and marks them. Answers the number of lines.
 pub fn column_batch(
     ticket: &mut Ticket,
     residuals: &[i32],
     scratch: &mut [i32],
     start: usize,
-    lines: usize,
+    count: usize,
 ) -> Result<usize, Refusal> {
     let (length, into) = (scratch.len(), scratch.as_mut_ptr());
     // Each pointer goes with its own slice's length; the ticket is one struct of C's layout.
     read(unsafe {
-        mizdrek_column_batch(ticket, residuals.as_ptr(), residuals.len(), into, length, start, lines)
+        mizdrek_column_batch(ticket, residuals.as_ptr(), residuals.len(), into, length, start, count)
     })
 }
 
-/// Works out `lines` rows from `start` into output and marks them. Answers the number of lines.
+/// Works out `count` rows from `start` into output and marks them. Answers the number of lines.
 pub fn row_batch(
     ticket: &mut Ticket,
     scratch: &[i32],
     output: &mut [i32],
     start: usize,
-    lines: usize,
+    count: usize,
 ) -> Result<usize, Refusal> {
     let (length, into) = (output.len(), output.as_mut_ptr());
     // Each pointer goes with its own slice's length; the ticket is one struct of C's layout.
-    read(unsafe { mizdrek_row_batch(ticket, scratch.as_ptr(), scratch.len(), into, length, start, lines) })
+    read(unsafe { mizdrek_row_batch(ticket, scratch.as_ptr(), scratch.len(), into, length, start, count) })
 }

@@ -18,9 +18,9 @@ unsafe extern "C" {
         side: usize,
         kind: u32,
         shift: i32,
-        line: usize,
-        start: usize,
         lines: usize,
+        start: usize,
+        count: usize,
         src: *const i32,
         src_len: usize,
         dst: *mut i32,
@@ -43,10 +43,10 @@ pub fn plain(
     })
 }
 
-/// The lane pass over `lines` lines from `start`, out of `line` lines.
+/// The lane pass over `count` lines from `start`, out of `lines` lines.
 pub fn lanes(
     (side, kind, shift): (usize, u32, i32),
-    (line, start, lines): (usize, usize, usize),
+    (lines, start, count): (usize, usize, usize),
     src: &[i32],
     dst: &mut [i32],
 ) -> Result<usize, Refusal> {
@@ -56,9 +56,9 @@ pub fn lanes(
             side,
             kind,
             shift,
-            line,
-            start,
             lines,
+            start,
+            count,
             src.as_ptr(),
             src.len(),
             dst.as_mut_ptr(),

@@ -9,7 +9,7 @@ use crate::mizdrek::Ticket;
 pub struct Batch {
     pub row: bool,
     pub start: usize,
-    pub lines: usize,
+    pub count: usize,
 }
 
 impl Batch {
@@ -18,19 +18,19 @@ impl Batch {
         if self.row { w } else { h }
     }
 
-    /// Whether the batch lies within `count` lines.
-    pub fn within(&self, count: usize) -> bool {
-        let placed = match self.lines {
+    /// Whether the batch lies within `lines` lines.
+    pub fn within(&self, lines: usize) -> bool {
+        let placed = match self.count {
             1 => true,
             4 | 8 => self.start.is_multiple_of(4),
             _ => false,
         };
-        placed && self.start.checked_add(self.lines).is_some_and(|end| end <= count)
+        placed && self.start.checked_add(self.count).is_some_and(|end| end <= lines)
     }
 
     /// The marks of its lines, if it lies within 32 lines.
     pub fn mask(&self) -> u32 {
-        first_lines(self.lines) << self.start
+        first_lines(self.count) << self.start
     }
 }
 
@@ -59,5 +59,5 @@ pub fn batch(ticket: &Ticket, batch: &Batch, lengths: [usize; 2]) -> Result<usiz
     if past || unmarked && (rows != 0 || batch.row) {
         return Err(BatchOrder);
     }
-    Ok(batch.lines)
+    Ok(batch.count)
 }

@@ -59,13 +59,13 @@ pub fn batch(
     if short {
         return Err(ShortBuffer);
     }
-    let lines = batch::batch(ticket, batch, lengths)?;
+    let count = batch::batch(ticket, batch, lengths)?;
     if batch.row {
         ticket.rows |= batch.mask();
     } else {
         ticket.columns |= batch.mask();
     }
-    Ok(lines)
+    Ok(count)
 }
 
 /// Where line `j` of a tile begins in the plane's output.
@@ -124,7 +124,7 @@ fn are_rules_kept<'a>((w, h): (usize, usize), mut open: impl Iterator<Item = &'a
 
 /// Whether a ticket breaks no rule of 1, 2 or 6: a column batch with nothing wrong of its own is accepted.
 fn is_sound(ticket: &Ticket) -> bool {
-    batch::batch(ticket, &Batch { row: false, start: 0, lines: 1 }, [usize::MAX; 2]).is_ok()
+    batch::batch(ticket, &Batch { row: false, start: 0, count: 1 }, [usize::MAX; 2]).is_ok()
 }
 
 /// Whether a tile lies at multiples of 4 and within these sides.

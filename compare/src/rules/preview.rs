@@ -7,7 +7,7 @@ use crate::mizdrek::Ticket;
 /// Whether a preview buffer of `room` numbers is too short for the lines of a batch. It is judged for 1, 4
 /// or 8 lines alone.
 pub fn is_short(batch: &Batch, size: (usize, usize), room: usize) -> bool {
-    [1, 4, 8].contains(&batch.lines) && room < batch.lines * batch.side(size)
+    [1, 4, 8].contains(&batch.count) && room < batch.count * batch.side(size)
 }
 
 /// A preview into a buffer of `room` numbers, of a batch lent two buffers of these lengths.

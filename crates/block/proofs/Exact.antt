@@ -7,7 +7,8 @@ use Prim.Native.Nat.{ℕ, zero, suc, ◌+◌, ◌-◌, ◌*◌, ◌/◌, ◌%◌
 use native.Mathlib.Nat.{le_refl, le_trans, lt_of_le_of_lt, mul-le-mul_right, suc-mul, pow-suc, mod-lt, div-eq_of_lt, div-mul-le_self, le-div_iff_mul-le, div-lt_iff_lt-mul}
 use native.Mathlib.Omega.{arith}
 use lib.Arith.{digits_lt, digits_div, digits_mod}
-use lib.Dec.{leb, leb→le}
+use borrow.Author.Tests.{leb-true}
+use lib.Dec.{leb}
 use lib.IntN.{ℤ, pos, negsuc, nat_abs, ◌+ℤ◌, ◌*ℤ◌}
 use lib.ListN.{get_or}
 use lib.Pow.{pow_pos, pow_mono}
@@ -61,12 +62,12 @@ round_size_lem (suc s) z some small =
 
 -- ---- how large a pass's sum can be, of samples of size at most b
 
-pub sum_size : (kind n line : ℕ) (src : List ℤ) (b j f : ℕ) → is_side n ≡ true → has_kernel kind n ≡ true → f < n
-    → ((k : ℕ) → k < n → nat_abs (get_or src (k * line + j) (pos 0)) ≤ b) → nat_abs (pass_sum kind n line src j f) ≤ 64 * n * b
+pub sum_size : (kind n lines : ℕ) (src : List ℤ) (b j f : ℕ) → is_side n ≡ true → has_kernel kind n ≡ true → f < n
+    → ((k : ℕ) → k < n → nat_abs (get_or src (k * lines + j) (pos 0)) ≤ b) → nat_abs (pass_sum kind n lines src j f) ≤ 64 * n * b
 unfolding pass_sum Within row_size
-sum_size kind n line src b j f side has bf small =
+sum_size kind n lines src b j f side has bf small =
     le_trans (sum_nat_abs n _)
-    (le_trans (sum_bound n (kernel kind n f) (λ k. get_or src (k * line + j) (pos 0)) b small)
+    (le_trans (sum_bound n (kernel kind n f) (λ k. get_or src (k * lines + j) (pos 0)) b small)
     (mul-le-mul_right b (row_size_lem kind n side has f bf)))
 
 -- ---- the bounds of a block, computed at the sixteen sizes
@@ -83,11 +84,11 @@ row_sum_size w h = 64 * w * column_size w h
 
 pub column_largest : (w h : ℕ) → is_side w ≡ true → is_side h ≡ true → column_sum_size h ≤ largest_sum
 unfolding column_sum_size largest_sum
-column_largest w h sw sh = leb→le _ _ (each_size (λ w h. leb (column_sum_size h) largest_sum) tt w h sw sh)
+column_largest w h sw sh = leb-true _ _ (each_size (λ w h. leb (column_sum_size h) largest_sum) refl w h sw sh)
 
 pub row_largest : (w h : ℕ) → is_side w ≡ true → is_side h ≡ true → row_sum_size w h ≤ largest_sum
 unfolding row_sum_size column_size column_sum_size round_size half first_shift lookup shifts largest_sum
-row_largest w h sw sh = leb→le _ _ (each_size (λ w h. leb (row_sum_size w h) largest_sum) tt w h sw sh)
+row_largest w h sw sh = leb-true _ _ (each_size (λ w h. leb (row_sum_size w h) largest_sum) refl w h sw sh)
 
 -- the bound is that of 32 × 32
 pub largest_is : row_sum_size 32 32 ≡ largest_sum

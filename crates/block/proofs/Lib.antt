@@ -1,6 +1,6 @@
 pub mod Accepted
 pub mod Exact
-pub mod LineRoom
+pub mod Room
 pub mod NoWrap
 pub mod Scaled
 pub mod Whole

@@ -1,5 +1,5 @@
 -- Some lines of a block's passes, as batches run them: any residuals, and sums that wrap.
-use Rattle.std.specs.Prelude.{Bool, cond, List, ℕ, ◌+◌, ◌*◌, ◌/◌, ◌%◌, ◌≤◌, ℤ, pos, get_or}
+use Rattle.std.specs.Prelude.{Bool, cond, List, ℕ, ◌+◌, ◌*◌, ◌/◌, ◌%◌, ℤ, pos, get_or}
 use Rattle.laws.specs.Integer.{wrap32}
 use Rattle.laws.specs.Store.{laid}
 use Rattle.fixed.specs.Fixed.{scaled}
@@ -16,18 +16,12 @@ unfoldable pub row_lines : ℕ → ℕ → ℕ → List ℤ → ℕ → ℕ → 
 row_lines w h rk scratch start count output =
     laid output (start * w) (count * w) (λ p. rescaled w h (pass_at rk w (second_shift w h) h scratch (start + p / w) (p % w)))
 
--- lines of one of the passes: row lines, from the scratch buffer into the output, or column lines, from the residuals into scratch
+-- lines of one of the passes: row lines, from the scratch buffer into the output, or column lines, from the residuals into scratch. No public
+-- contract mentions it
 abbrev pub lines_of : ℕ → ℕ → ℕ → ℕ → Bool → List ℤ → ℕ → ℕ → List ℤ → List ℤ
 lines_of w h ck rk row source start count target =
     cond row (row_lines w h rk source start count target) (column_lines w h ck source start count target)
 
--- what the calls that write them ask: where the lines end, out of count lines of n numbers, and that just these lines lie within the two
--- buffers
-pub record LinesRoom (w h end count n source target : ℕ) : Type 0 where
-  pub ends : end ≤ count
-  pub source_long : w * h + end ≤ count + source
-  pub target_long : end * n ≤ target
-
--- the number at place at + i, scaled at 64 bits
+-- the number at place at + i, scaled at 64 bits. No public contract mentions it
 abbrev pub scaled_at : List ℤ → ℕ → ℕ → ℤ
 scaled_at l at i = wrap32 (scaled (get_or l (at + i) (pos 0)))

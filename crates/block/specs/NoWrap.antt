@@ -5,7 +5,7 @@ use Rattle.sizes.specs.Size.{is_side}
 use Rattle.sizes.specs.Shift.{first_shift, second_shift}
 use Rattle.residual.specs.Residual.{residuals_ok}
 use Rattle.lines.specs.Pass.{pass_sum, pass_at}
-use Rattle.block.specs.Answer.{has_kinds}
+use Rattle.block.specs.Call.{has_kinds}
 use Rattle.block.specs.Block.{column_at, columns}
 
 -- a block within the residual limit: numbers 1, 2 and 4 don't apply

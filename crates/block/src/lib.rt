@@ -7,7 +7,7 @@ ghost use Rattle.std.specs.Prelude.{◌≡◌, length, IfOk};
 ghost use Rattle.answer.specs.Answer.{told};
 ghost use Rattle.kernels.specs.Kind.{kind_number};
 ghost use Rattle.block.specs.Admitted.{admitted};
-ghost use Rattle.block.specs.Answer.{block_answer, scratch_after, output_after};
+ghost use Rattle.block.specs.Call.{block_answer, scratch_after, output_after};
 
 use answer::{Outcome, Refusal};
 pub use shape::{Shape, kinds};
@@ -15,7 +15,7 @@ use sizes::Size;
 
 // A block by its arguments alone, or why it is refused: scratch and output are the lengths of those buffers. Kinds are numbers in public calls, which
 // refuse any other by 2.
-#[tactic(auto, unfolding(crate::specs::Answer::block_answer, crate::specs::Answer::refusals, answer::specs::Answer::lowest), using(residual::proofs::Residual::slice_ok))]
+#[tactic(auto, unfolding(crate::specs::Call::block_answer, crate::specs::Call::refusals, answer::specs::Answer::lowest), using(residual::proofs::Residual::slice_ok))]
 pub fn admit(
     w: usize,
     h: usize,

@@ -4,27 +4,39 @@ ghost use Rattle.laws.specs.Store.{laid};
 ghost use Rattle.answer.specs.declared.Refusal.TheVariants.{BadKind};
 ghost use Rattle.kernels.specs.Kernel.{has_kernel};
 ghost use Rattle.kernels.specs.Kind.{kind_number};
-ghost use Rattle.block.specs.Answer.{has_kinds};
+ghost use Rattle.block.specs.Call.{is_kind, has_kinds};
 ghost use Rattle.block.specs.Block.{is_odd};
-ghost use Rattle.block.specs.Lines.{LinesRoom, column_lines, row_lines, lines_of, scaled_at};
+ghost use Rattle.block.specs.Lines.{column_lines, row_lines, lines_of, scaled_at};
+ghost use Rattle.block.specs.Room.{BlockRoom};
 
 use answer::Refusal;
 use kernels::Kind;
 use lines::Source;
 use sizes::Size;
 
+// The kind of this number, which is to be one that a block of these sides may have, whatever they are.
+#[inline(always)]
+#[tactic(auto, unfolding(crate::specs::Call::is_kind, kernels::specs::Kernel::has_kernel))]
+fn kind_of(w: usize, h: usize, kind: u32) -> Result<Kind, Refusal>
+    ensures { MatchResult result (λ k. (kind_number k ≡ kind) × (has_kernel kind h ≡ true) × (has_kernel kind w ≡ true) × (is_kind w h kind ≡ true)) (λ why. (why ≡ BadKind) × (is_kind w h kind ≡ false)) }
+{
+    if kind == 0 {
+        return Ok(Kind::Dct);
+    }
+    if w != h {
+        return Err(Refusal::BadKind);
+    }
+    Kind::new(kind, w)
+}
+
 // The kinds of the columns and of the rows of a block of any sides: number 2's rule.
 #[inline(always)]
-#[tactic(auto, unfolding(crate::specs::Answer::has_kinds))]
+#[tactic(auto, unfolding(crate::specs::Call::has_kinds))]
 pub fn kinds(w: usize, h: usize, column_kind: u32, row_kind: u32) -> Result<(Kind, Kind), Refusal>
     ensures { MatchResult result (λ k. (kind_number k.0 ≡ column_kind) × (kind_number k.1 ≡ row_kind) × (has_kernel column_kind h ≡ true) × (has_kernel row_kind w ≡ true) × (has_kinds w h column_kind row_kind ≡ true)) (λ why. (why ≡ BadKind) × (has_kinds w h column_kind row_kind ≡ false)) }
 {
-    let columns = Kind::new(column_kind, h)?;
-    let rows = Kind::new(row_kind, w)?;
-    let dct = (column_kind == 0) & (row_kind == 0);
-    if !(dct | (w == h)) {
-        return Err(Refusal::BadKind);
-    }
+    let columns = kind_of(w, h, column_kind)?;
+    let rows = kind_of(w, h, row_kind)?;
     Ok((columns, rows))
 }
 
@@ -52,7 +64,7 @@ impl Shape {
 
     // Count column lines from start on, into scratch.
     pub fn column_lines(self, start: usize, count: usize, residuals: &[i32], scratch: &mut [i32])
-        requires { LinesRoom self.size.w self.size.h (start + count) self.size.w self.size.h (length residuals.now) (length scratch.old) }
+        requires { BlockRoom self.size.w self.size.h (start + count) self.size.w self.size.h (length residuals.now) (length scratch.old) }
         ensures { scratch.new ≡ column_lines self.size.w self.size.h (kind_number self.columns) residuals.now start count scratch.old }
     {
         let source = Source {
@@ -65,7 +77,7 @@ impl Shape {
 
     // Count row lines from start on, into output, scaled where a block is.
     pub fn row_lines(self, start: usize, count: usize, scratch: &[i32], output: &mut [i32])
-        requires { LinesRoom self.size.w self.size.h (start + count) self.size.h self.size.w (length scratch.now) (length output.old) }
+        requires { BlockRoom self.size.w self.size.h (start + count) self.size.h self.size.w (length scratch.now) (length output.old) }
         ensures { output.new ≡ row_lines self.size.w self.size.h (kind_number self.rows) scratch.now start count output.old }
     {
         let w = self.size.w;
@@ -84,7 +96,7 @@ impl Shape {
     // batch's own, looked at once.
     #[inline(always)]
     pub fn lines(self, row: bool, start: usize, count: usize, source: &[i32], target: &mut [i32])
-        requires { LinesRoom self.size.w self.size.h (start + count) (cond row self.size.h self.size.w) (cond row self.size.w self.size.h) (length source.now) (length target.old) }
+        requires { BlockRoom self.size.w self.size.h (start + count) (cond row self.size.h self.size.w) (cond row self.size.w self.size.h) (length source.now) (length target.old) }
         ensures { target.new ≡ lines_of self.size.w self.size.h (kind_number self.columns) (kind_number self.rows) row source.now start count target.old }
     {
         if row {

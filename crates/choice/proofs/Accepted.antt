@@ -2,7 +2,7 @@
 use mathlib.Core.Bool.{Bool, true, false, cond, not, ◌&&◌, ◌||◌}
 use mathlib.Core.List.{List}
 use mathlib.Core.Path.{◌≡◌, refl, sym, ap, ◌∙◌}
-use Prim.Native.Nat.{ℕ, zero, suc, ◌^◌, ◌≤◌, ◌<◌}
+use Prim.Native.Nat.{ℕ, zero, suc, ◌≤◌, ◌<◌}
 use native.Mathlib.Omega.{arith}
 use borrow.Author.Tests.{lt-ltb, le-ltb, ltb-false}
 use denote.Ref.{Bor}
@@ -10,14 +10,13 @@ use lib.Dec.{T, ltb}
 use lib.IntN.{ℤ, pos, nat_abs}
 use lib.ListN.{length, get_or, take}
 use lib.Seq.{length-take-le, get_or-take}
-use Rattle.laws.specs.Table.{every}
-use Rattle.laws.proofs.Bool.{neither}
-use Rattle.laws.proofs.Every.{every_same}
+use Rattle.laws.proofs.Bool.{bit_most, neither}
+use Rattle.laws.proofs.Every.{every_first}
 use Rattle.laws.proofs.Sum.{sum_ℕ_same}
-use Rattle.format.specs.Pieces.{is_near}
+use Rattle.format.specs.Pieces.{is_near, are_near}
 use Rattle.answer.specs.Answer.{Answer, answers, refuses, lowest, is_small}
 use Rattle.answer.proofs.Answer.{passed, the_answer, lowest_small}
-use Rattle.choice.specs.Choice.{weight, are_near, choice_answer, firsts, part_given, lighter_of}
+use Rattle.choice.specs.Choice.{weight, choice_answer, firsts, part_given, lighter_of}
 
 pub record Accepted (first second : List ℤ) (count n : ℕ) : Type 0 where
   pub in_first : count ≤ length first
@@ -33,14 +32,9 @@ accepted first second count n e =
     let long = neither (ltb (length first) count) (ltb (length second) count) there.0 in
     record { in_first = ltb-false _ _ long.0; in_second = ltb-false _ _ long.1; which = the_answer _ _ near.1 }
 
--- an answer is 0 or 1
-one_small : (t : Bool) → cond t 1 0 < 2 ^ 63
-one_small true = omega arith
-one_small false = omega arith
-
 pub choice_small : (first second : List ℤ) (count : ℕ) → T (is_small (choice_answer first second count))
 unfolding choice_answer
-choice_small first second count = lowest_small _ _ (one_small (ltb (weight count second) (weight count first)))
+choice_small first second count = lowest_small _ _ (omega (arith, bit_most (ltb (weight count second) (weight count first))))
 
 -- ---- the part that is given
 
@@ -65,9 +59,7 @@ cut s n h = ap (λ (k : ℕ). record { place = s.ref_ptr; count = k; levels = ta
 
 near_firsts : (n : ℕ) (l : List ℤ) → n ≤ length l → are_near (length (take n l)) (take n l) ≡ are_near n l
 unfolding are_near
-near_firsts n l h =
-    ap (λ (m : ℕ). every m (λ k. is_near (get_or (take n l) k (pos 0)))) (length-take-le n l h)
-    ∙ every_same n (λ k. is_near (get_or (take n l) k (pos 0))) (λ k. is_near (get_or l k (pos 0))) (λ k b. ap is_near (get_or-take n l k (pos 0) b))
+near_firsts n l h = every_first is_near n l (pos 0) h
 
 -- the first levels weigh what they weigh where they stand
 pub weight_firsts : (n : ℕ) (l : List ℤ) → weight n (take n l) ≡ weight n l

@@ -11,15 +11,17 @@ use lib.Seq.{length-take-le}
 use Rattle.laws.proofs.Place.{split}
 use Rattle.laws.specs.Sum.{sum_ℕ}
 use Rattle.answer.specs.Answer.{refuses, lowest}
-use Rattle.choice.specs.Choice.{weight, are_near, choice_answer, lighter_of, Refusals, NoLevels, Lightest}
+use Rattle.answer.proofs.Answer.{no_answer}
+use Rattle.choice.specs.Choice.{weight, choice_answer, lighter_of, Refusals, NoLevels, Lightest}
 use Rattle.choice.proofs.Accepted.{accepted, first_given, second_given, weight_firsts}
+use Rattle.format.specs.Pieces.{are_near}
 
 one_of : (a b c : Bool) (n k : ℕ) → lowest ((a, 8) ∷ (b, 3) ∷ (c, 11) ∷ []) n ≡ refuses k → (k ≡ 8) ⊎ (k ≡ 3) ⊎ (k ≡ 11)
 unfolding lowest
 one_of true b c n k e = inl (cc)
 one_of false true c n k e = inr (inl (cc))
 one_of false false true n k e = inr (inr (cc))
-one_of false false false n k e = absurd (let z : ◌≡◌ {A = ℕ} 0 1 = cc in omega arith)
+one_of false false false n k e = no_answer (sym e)
 
 pub refusals : Refusals
 unfolding choice_answer

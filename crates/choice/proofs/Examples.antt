@@ -2,8 +2,9 @@
 use mathlib.Core.Path.{refl}
 use Rattle.laws.specs.Sum.{sum_ℕ}
 use Rattle.answer.specs.Answer.{lowest}
-use Rattle.choice.specs.Choice.{weight, are_near, choice_answer}
+use Rattle.choice.specs.Choice.{weight, choice_answer}
 use Rattle.choice.specs.Examples.{Lighter, Counted, Refused}
+use Rattle.format.specs.Pieces.{are_near}
 
 pub lighter : Lighter
 unfolding choice_answer lowest are_near weight sum_ℕ

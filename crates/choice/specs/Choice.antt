@@ -4,17 +4,13 @@ use Rattle.std.specs.Borrow.{Bor}
 use Rattle.laws.specs.Sum.{sum_ℕ}
 use Rattle.laws.specs.Table.{every}
 use Rattle.answer.specs.Answer.{Answer, answers, refuses, lowest}
-use Rattle.format.specs.Pieces.{is_near}
+use Rattle.format.specs.Pieces.{are_near}
 
 -- ---- which
 
 -- "the .. sum of magnitudes" of the first n levels of a buffer
 unfoldable pub weight : ℕ → List ℤ → ℕ
 weight n l = sum_ℕ n (λ k. nat_abs (get_or l k (pos 0)))
-
--- whether each of them is within 2^30 of zero
-unfoldable pub are_near : ℕ → List ℤ → Bool
-are_near n l = every n (λ k. is_near (get_or l k (pos 0)))
 
 -- "8 for a count above 1,024, then 3, then 11 for a level beyond 2^30 from zero". Accepted, 1 where the second is the lighter and 0 where
 -- the first is: "On a tie the first wins"

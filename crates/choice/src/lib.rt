@@ -4,7 +4,8 @@
 ghost use Rattle.std.specs.Prelude.{◌≡◌, true, false, ◌≤◌, length, MatchResult};
 ghost use Rattle.answer.specs.Answer.{told};
 ghost use Rattle.answer.specs.declared.Refusal.TheVariants.{BadRecord};
-ghost use Rattle.choice.specs.Choice.{weight, are_near, choice_answer, number_in, part_at, lighter_of};
+ghost use Rattle.choice.specs.Choice.{weight, choice_answer, number_in, part_at, lighter_of};
+ghost use Rattle.format.specs.Pieces.{are_near};
 
 use answer::{Outcome, Refusal};
 

@@ -16,12 +16,12 @@ use Rattle.previews.proofs.Condition3.{condition3}
 use Rattle.dispatch.specs.Calls.{BatchCalled, Called, Calls, ran, LentCondition3}
 
 -- a batch is a step
-batch_step : (residuals : List ℤ) (s : State) (row : Bool) (start lines : ℕ) (o : Outcome) (t : State) → BatchCalled residuals s row start lines o t
-    → record { answer = told o; state = t } ≡ step residuals s (batch_of row start lines)
+batch_step : (residuals : List ℤ) (s : State) (row : Bool) (start count : ℕ) (o : Outcome) (t : State) → BatchCalled residuals s row start count o t
+    → record { answer = told o; state = t } ≡ step residuals s (batch_of row start count)
 unfolding step
-batch_step residuals s true start lines o t c =
+batch_step residuals s true start count o t c =
     ap (λ (d : List ℤ). record { answer = told o; state = state_at t.ticket d t.output }) c.1 ∙ ap (row_step s) c.0
-batch_step residuals s false start lines o t c =
+batch_step residuals s false start count o t c =
     ap (λ (d : List ℤ). record { answer = told o; state = state_at t.ticket t.scratch d }) c.1 ∙ ap (column_step s) c.0
 
 -- a call is a turn
@@ -29,7 +29,7 @@ called_turn : (residuals : List ℤ) (s : State) (c : Call) (o : Outcome) (shown
     → record { answer = told o; shown = shown; state = t } ≡ turn residuals s c
 called_turn residuals s (runs b) o shown t c =
     ap₂ (λ (d : List ℤ) (r : Step). record { answer = r.answer; shown = d; state = r.state }) c.1
-    (batch_step residuals s b.row b.start b.lines o t c.0)
+    (batch_step residuals s b.row b.start b.count o t c.0)
 called_turn residuals s (looks b room) o shown t c =
     ap (λ (x : State). record { answer = told o; shown = shown; state = x }) c.1 ∙ ap (preview_turn s) c.0
 

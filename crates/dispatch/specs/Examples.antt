@@ -1,11 +1,11 @@
 -- What condition 3 of a lent ticket, as it is stated, says of one list of calls: a premise that no opening meets would leave it saying nothing.
 use Rattle.std.specs.Prelude.{◌≡◌, List, [], ◌∷◌, ℕ, ℤ}
 use Rattle.laws.specs.Store.{tab}
-use Rattle.answer.specs.Answer.{answers, refuses, told}
-use Rattle.answer.specs.Answer.{Outcome}
+use Rattle.answer.specs.Answer.{Outcome, answers, refuses, told}
 use Rattle.tickets.specs.Open.{new_ticket}
 use Rattle.tickets.specs.Run.{State, state_at}
-use Rattle.previews.specs.Examples.{zeros, list}
+use Rattle.tickets.specs.Examples.{zeros}
+use Rattle.previews.specs.Examples.{list}
 use Rattle.dispatch.specs.Calls.{Calls, LentCondition3}
 
 -- from the statement alone, whatever its proof: the outcomes of the seven calls, on a block of 8 × 4

@@ -1,10 +1,11 @@
--- "the dispatcher keeps one job ticket and lends it to be marked where it stands": what a call on a lent ticket gives back.
-use Rattle.std.specs.Prelude.{List, ℤ}
-use Rattle.answer.specs.Answer.{told}
-use Rattle.answer.specs.Answer.{Outcome}
-use Rattle.tickets.specs.Batch.{Given}
+-- "the dispatcher keeps one job ticket and lends it to be marked where it stands": a batch on a lent ticket.
+use Rattle.std.specs.Prelude.{◌≡◌, List, ℤ}
+use Rattle.answer.specs.Answer.{Outcome, told}
+use Rattle.tickets.specs.Batch.{batch}
+use Rattle.tickets.specs.declared.Batch.{Batch}
 use Rattle.tickets.specs.declared.Ticket.{Ticket}
 
--- its answer, the ticket behind the reference and the buffer that it writes, as they stand at exit
-abbrev pub lent : Outcome → Ticket → List ℤ → Given
-lent r ticket buffer = record { answer = told r; ticket = ticket; buffer = buffer }
+-- batch b, lent the ticket t, the buffer source to read and the buffer target to write: it gives back o and leaves the ticket t' and the
+-- buffer target', as the batch by value does
+abbrev pub LentBatch : Ticket → Batch → List ℤ → List ℤ → Outcome → Ticket → List ℤ → Type 0
+LentBatch t b source target o t' target' = record { answer = told o; ticket = t'; buffer = target' } ≡ batch t b source target

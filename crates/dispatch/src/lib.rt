@@ -1,9 +1,7 @@
 // The batches of `tickets` on one job ticket that is lent and marked where it stands.
 #![tactic(auto)]
 
-ghost use Rattle.std.specs.Prelude.{◌≡◌};
-ghost use Rattle.tickets.specs.Batch.{batch};
-ghost use Rattle.dispatch.specs.Lent.{lent};
+ghost use Rattle.dispatch.specs.Lent.{LentBatch};
 
 use answer::Outcome;
 use tickets::{Batch, Ticket};
@@ -11,7 +9,7 @@ use tickets::{Batch, Ticket};
 // A batch: source is the residuals and target the scratch buffer for columns, the scratch buffer and the output for rows. Refused, it
 // leaves the ticket as given.
 pub fn run(ticket: &mut Ticket, b: Batch, source: &[i32], target: &mut [i32]) -> Outcome
-    ensures { lent result ticket.new target.new ≡ batch ticket.old b source.now target.old }
+    ensures { LentBatch ticket.old b source.now target.old result ticket.new target.new }
 {
     let done = tickets::run(*ticket, b, source, target);
     *ticket = done.ticket;

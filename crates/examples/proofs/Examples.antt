@@ -4,9 +4,9 @@ use lib.Ieee.{add, sub, mul, div, le, of_int, to_bits}
 use Rattle.laws.specs.Integer.{wrap_at, wrap32}
 use Rattle.laws.specs.Store.{tab}
 use Rattle.laws.specs.Sum.{sum_to}
-use Rattle.answer.specs.Answer.{lowest}
 use Rattle.sizes.specs.Shift.{shifts, lookup, first_shift, second_shift}
 use Rattle.sizes.specs.Size.{log_of}
+use Rattle.fixed.specs.Limit.{is_within}
 use Rattle.fixed.specs.Fixed.{floor_shift, half, round_exact, round_shift, scaled}
 use Rattle.kernels.specs.Adst.{adst4, adst8, adst}
 use Rattle.kernels.specs.Dct.{dct32, dct}
@@ -26,5 +26,5 @@ pub all_right_lem : T (all_right examples)
 unfolding examples all_right tab sum_to wrap_at wrap32 floor_shift half round_exact round_shift scaled
     shifts lookup first_shift second_shift log_of adst4 adst8 adst dct32 dct kernel pass_sum pass_at column_at columns is_odd rescaled row_at
     wht_four line_of rows wht_of wht-columns
-    steps step_at step_of one_answer place_of level_at magnitude_at level_of lowest settings_ok coefficient_ok max0_of round_of le add sub mul div of_int to_bits
+    steps step_at step_of one_answer place_of level_at magnitude_at level_of settings_ok coefficient_ok is_within max0_of round_of le add sub mul div of_int to_bits
 all_right_lem = tt

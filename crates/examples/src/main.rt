@@ -69,12 +69,12 @@ fn column_batch(
     entry: &str,
     w: usize,
     start: usize,
-    lines: usize,
+    count: usize,
 ) -> io::Result<()> {
     let residuals = [1i32; 1024];
     let mut scratch = [0i32; 1024];
     let opened = tickets::open(w, 32, 0, 0, &residuals, &scratch, &[0i32; 1024]);
-    let batch = Batch::columns(start, lines);
+    let batch = Batch::columns(start, count);
     let batched = tickets::run(opened.ticket, batch, &residuals, &mut scratch);
     print_outcome(rt, entry, batched.outcome)
 }

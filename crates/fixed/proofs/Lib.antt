@@ -1,3 +1,4 @@
-pub mod Machine
+pub mod Within
 pub mod Round
 pub mod Scale
+pub mod Shifted

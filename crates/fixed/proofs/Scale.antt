@@ -14,7 +14,7 @@ use Rattle.laws.proofs.Size.{mag_add, mag_mul}
 use Rattle.laws.proofs.Divide.{mag_floor_div}
 use Rattle.laws.proofs.Wrap.{wrap32_in}
 use Rattle.fixed.specs.Fixed.{floor_shift, scaled}
-use Rattle.fixed.proofs.Machine.{shr_read}
+use Rattle.fixed.proofs.Shifted.{shr_read}
 
 -- the product, and the sum that is shifted
 module _ (v : ℤ) (h : ℕ) (small : mag v < h) where

@@ -1,6 +1,5 @@
 pub mod Bits
 pub mod Examples
-pub mod Fill
 pub mod Listed
 pub mod Number
 pub mod Parse

@@ -2,36 +2,17 @@
 use mathlib.Core.Bool.{Bool, cond}
 use mathlib.Core.List.{List, [], ◌++◌}
 use mathlib.Core.Logic.{⊎_elim}
-use mathlib.Core.Path.{◌≡◌, refl, sym, ap, ◌∙◌}
-use Prim.Native.Nat.{ℕ, zero, suc, ◌+◌, ◌-◌, ◌*◌, ◌/◌, ◌%◌, ◌^◌, ◌≤◌, ◌<◌}
-use native.Mathlib.Nat.{add-zero, zero-add, div-add-mod', div-div-eq-div-mul}
+use mathlib.Core.Path.{◌≡◌, sym, ap, ◌∙◌}
+use Prim.Native.Nat.{ℕ, suc, ◌+◌, ◌-◌, ◌^◌, ◌≤◌, ◌<◌}
+use native.Mathlib.Nat.{add-zero}
 use native.Mathlib.Omega.{arith}
 use borrow.Author.Tests.{lt-ltb, le-ltb}
-use lib.IntN.{ℤ, pos, negsuc, ◌-ℤ◌, nat_abs}
+use lib.IntN.{ℤ, pos, negsuc, nat_abs}
 use lib.ListN.{length, get_or, drop, drop_of_length-le}
-use mir.Facts.{to_z_pos}
-use mir.Syntax.{w32}
-use mir.Val.{to_z}
+use Rattle.laws.proofs.Digits.{below_four, four_sum}
 use Rattle.laws.proofs.Place.{split}
 use Rattle.format.specs.Pieces.{four, number_at, Bytes, word_of, of_word, FourBytes, Words}
 use Rattle.laws.proofs.Part.{Part, part_self, part_get, part_made}
-
--- what holds at 0 to 3
-below_four : (P : ℕ → Type 0) → P 0 → P 1 → P 2 → P 3 → (i : ℕ) → i < 4 → P i
-below_four P a b c d zero h = a
-below_four P a b c d (suc zero) h = b
-below_four P a b c d (suc (suc zero)) h = c
-below_four P a b c d (suc (suc (suc zero))) h = d
-below_four P a b c d (suc (suc (suc (suc i)))) h = absurd (omega arith)
-
-chain : (n q₁ q₂ q₃ a b c d : ℕ) → n ≡ q₁ * 256 + a → q₁ ≡ q₂ * 256 + b → q₂ ≡ q₃ * 256 + c → q₃ ≡ d → a + 256 * b + 65536 * c + 16777216 * d ≡ n
-chain n q₁ q₂ q₃ a b c d e f g h = omega arith
-
-four_sum : (n : ℕ) → n < 2 ^ 32 → n % 256 + 256 * (n / 256 % 256) + 65536 * (n / 65536 % 256) + 16777216 * (n / 16777216 % 256) ≡ n
-four_sum n h =
-    let cut : ((k : ℕ) → n / k ≡ n / (k * 256) * 256 + n / k % 256) =
-    λ k. sym (div-add-mod' (n / k) 256) ∙ ap (λ (q : ℕ). q * 256 + n / k % 256) (div-div-eq-div-mul n k 256) in
-    chain n (n / 256) (n / 65536) (n / 16777216) _ _ _ _ (sym (div-add-mod' n 256)) (cut 256) (cut 65536) (omega arith)
 
 pub number_read : {s : List ℕ} {at : ℕ} (n : ℕ) → Part s at (four n) → n < 2 ^ 32 → number_at s at ≡ n
 unfolding number_at
@@ -76,19 +57,6 @@ word_back n h =
     let e : 2 ^ 32 - suc (2 ^ 32 - suc n) ≡ n = omega arith in
     ap (λ (b : Bool). word_of (cond b (pos n) (negsuc (2 ^ 32 - suc n)))) (le-ltb n (2 ^ 31) a) ∙ e)
     (split n (2 ^ 31))
-
--- a negative number by its bits turned over, as the code has it
-pub word_high : (n : ℕ) → 2 ^ 31 ≤ n → negsuc (4294967295 - n) ≡ of_word n
-word_high n h =
-    let e : 4294967295 - n ≡ 2 ^ 32 - suc n = omega arith in
-    rw (le-ltb n (2 ^ 31) h) (ap negsuc e)
-
-minus_one : (k : ℕ) → negsuc 0 -ℤ pos k ≡ negsuc k
-minus_one zero = refl
-minus_one (suc k) = ap (λ (n : ℕ). negsuc (suc n)) (zero-add k)
-
-pub turned : (k : ℕ) → k < 2 ^ 31 → negsuc 0 -ℤ to_z w32 k ≡ negsuc k
-turned k h = ap (λ (z : ℤ). negsuc 0 -ℤ z) (to_z_pos w32 h) ∙ minus_one k
 
 -- ---- both ways
 

@@ -146,15 +146,15 @@ no_bytes = (found_nothing 0, refl)
 
 -- ---- every string of bytes is decided
 
-not_both : {bs : List Block} {k : ℕ} → blocks bs ≡ damage k → ⊥
-not_both e = absurd (let z : ◌≡◌ {A = ℕ} 0 1 = cc in omega arith)
+pub no_damage : {X : Type 0} {k : ℕ} {bs : List Block} → damage k ≡ blocks bs → X
+no_damage e = absurd (let z : ◌≡◌ {A = ℕ} 0 1 = cc in omega arith)
 
 pub decides : Decides
 decides s bytes = by (parse s) refl (right s bytes)
   where
     by : (f : Found) → parse s ≡ f → Right 0 s f → Blocks s ⊎ Damaged s
     by (blocks bs) e r = inl (record { list = bs; found = e; bytes = r.0; are = r.1 })
-    by (damage k) e r = inr (record { number = k; found = e; one = r; none = λ bs ok same. not_both (sym (read_back bs ok) ∙ ap parse (sym same) ∙ e) })
+    by (damage k) e r = inr (record { number = k; found = e; one = r; none = λ bs ok same. no_damage (sym e ∙ ap parse same ∙ read_back bs ok) })
 
 -- ---- record by record
 

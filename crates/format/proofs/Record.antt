@@ -14,7 +14,7 @@ use Rattle.laws.proofs.Every.{every_all, every_each}
 use Rattle.laws.proofs.Laid.{length_tab, get_or_tab, tab_ext}
 use Rattle.laws.proofs.Pasted.{tab_get_or}
 use Rattle.laws.specs.Store.{tab}
-use Rattle.answer.proofs.Answer.{passed, the_answer}
+use Rattle.answer.proofs.Answer.{no_answer, passed, the_answer}
 use Rattle.answer.specs.Answer.{answers, refuses, lowest}
 use Rattle.sizes.specs.Size.{is_side}
 use Rattle.format.specs.Pieces.{Bytes, is_near, stands, word_of, of_word, four, side_byte, width_of, height_of, map_of, listed, number_at}
@@ -218,7 +218,7 @@ refused low s k e = by (is_cut s) (is_bad s) (ltb (number_at s 0) low) (length_i
     by true bad late n e = inl (same e)
     by false true late n e = inr (inl (same e))
     by false false true n e = inr (inr (same e))
-    by false false false n e = absurd (let z : ◌≡◌ {A = ℕ} 0 1 = cc in omega arith)
+    by false false false n e = no_answer (sym e)
 
 module _ (s : List ℕ) (bytes : Bytes s) {low : ℕ} (ok : Accepted low s) where
   -- the level that is listed for a place whose bit stands

@@ -4,10 +4,10 @@ use mathlib.Core.List.{List}
 use mathlib.Core.Path.{◌≡◌, refl}
 use Prim.Native.Nat.{ℕ, ◌*◌, ◌/◌, ◌%◌, ◌^◌, ◌≤◌, ◌<◌}
 use native.Mathlib.Nat.{mod-lt}
-use lib.Dec.{eqb, leb, ltb, leb→le, ltb→lt, eqb→eq, lit<}
+use borrow.Author.Tests.{eqb-true, leb-true, ltb-true}
+use lib.Dec.{eqb, leb, ltb, lit<}
 use lib.ListN.{get_or}
 use Rattle.laws.proofs.Every.{every_each}
-use Rattle.laws.proofs.Table.{every_at}
 use Rattle.laws.specs.Table.{every}
 use Rattle.sizes.proofs.Side.{each_size}
 use Rattle.sizes.specs.Size.{is_side, log_of}
@@ -28,20 +28,20 @@ high_side x = every_each 4 (λ i. is_side (4 * 2 ^ i)) four_sides (x / 4 % 4) (m
 -- from sides to the byte and back
 pub wide_back : (w h : ℕ) → is_side w ≡ true → is_side h ≡ true → width_of (side_byte w h) ≡ w
 unfolding side_byte log_of
-wide_back w h sw sh = eqb→eq _ _ (each_size (λ w h. eqb (width_of (side_byte w h)) w) tt w h sw sh)
+wide_back w h sw sh = eqb-true _ _ (each_size (λ w h. eqb (width_of (side_byte w h)) w) refl w h sw sh)
 
 pub high_back : (w h : ℕ) → is_side w ≡ true → is_side h ≡ true → height_of (side_byte w h) ≡ h
 unfolding side_byte log_of
-high_back w h sw sh = eqb→eq _ _ (each_size (λ w h. eqb (height_of (side_byte w h)) h) tt w h sw sh)
+high_back w h sw sh = eqb-true _ _ (each_size (λ w h. eqb (height_of (side_byte w h)) h) refl w h sw sh)
 
 pub byte_small : (w h : ℕ) → is_side w ≡ true → is_side h ≡ true → side_byte w h < 16
 unfolding side_byte log_of
-byte_small w h sw sh = ltb→lt _ _ (each_size (λ w h. ltb (side_byte w h) 16) tt w h sw sh)
+byte_small w h sw sh = ltb-true _ _ (each_size (λ w h. ltb (side_byte w h) 16) refl w h sw sh)
 
 -- from a byte with upper bits zero to sides and back
 pub byte_back : (x : ℕ) → x < 16 → side_byte (width_of x) (height_of x) ≡ x
 unfolding side_byte log_of
-byte_back x b = eqb→eq _ _ (every_at 16 (λ x. eqb (side_byte (width_of x) (height_of x)) x) tt x b)
+byte_back x b = eqb-true _ _ (every_each 16 (λ x. eqb (side_byte (width_of x) (height_of x)) x) refl x b)
 
 -- a block's places are 16 to 1,024, and fill whole bytes of the map
 pub record Sized (n : ℕ) : Type 0 where
@@ -52,9 +52,9 @@ pub record Sized (n : ℕ) : Type 0 where
 pub sized : (w h : ℕ) → is_side w ≡ true → is_side h ≡ true → Sized (w * h)
 sized w h sw sh =
     record {
-      low = leb→le _ _ (each_size (λ w h. leb 16 (w * h)) tt w h sw sh);
-      most = leb→le _ _ (each_size (λ w h. leb (w * h) 1024) tt w h sw sh);
-      whole = eqb→eq _ _ (each_size (λ w h. eqb (w * h % 8) 0) tt w h sw sh);
+      low = leb-true _ _ (each_size (λ w h. leb 16 (w * h)) refl w h sw sh);
+      most = leb-true _ _ (each_size (λ w h. leb (w * h) 1024) refl w h sw sh);
+      whole = eqb-true _ _ (each_size (λ w h. eqb (w * h % 8) 0) refl w h sw sh);
     }
 
 pub sized_in : (s : List ℕ) → Sized (places_in s)

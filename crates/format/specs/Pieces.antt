@@ -2,6 +2,7 @@
 use Rattle.std.specs.Prelude.{Bool, true, cond, not, List, [], ◌∷◌, ◌++◌, ◌≡◌, ℕ, zero, suc, ◌+◌, ◌-◌, ◌*◌, ◌/◌, ◌%◌, ◌^◌, ◌<◌, eqb, leb, ltb, ℤ, pos, negsuc, nat_abs, length, get_or}
 use Rattle.laws.specs.Store.{tab}
 use Rattle.laws.specs.Sum.{sum_ℕ}
+use Rattle.laws.specs.Table.{every}
 use Rattle.sizes.specs.Size.{is_side, log_of}
 
 -- ---- numbers in four bytes
@@ -83,6 +84,10 @@ pub record MapBytes : Type 0 where
 -- a level "within 2^30 of zero"
 abbrev pub is_near : ℤ → Bool
 is_near l = leb (nat_abs l) (2 ^ 30)
+
+-- each of the first n levels of a list
+unfoldable pub are_near : ℕ → List ℤ → Bool
+are_near n l = every n (λ k. is_near (get_or l k (pos 0)))
 
 -- "only the levels whose bit stands, as signed 32-bit numbers, low byte first": the bytes for a level, and for those of n places
 abbrev pub bytes_for : ℤ → List ℕ

@@ -1,13 +1,13 @@
 -- The sums of magnitudes of the kernels' rows, computed: at most 64 for each number of the row, at every side and kind. Assumes nothing.
-use mathlib.Core.Path.{◌≡◌, sym, ◌∙◌}
+use mathlib.Core.Path.{◌≡◌, refl, sym, ◌∙◌}
 use mathlib.Core.Bool.{true, false, false≢true}
 use Prim.Native.Nat.{ℕ, zero, suc, ◌*◌, ◌≤◌, ◌<◌}
 use native.Mathlib.Omega.{arith}
-use lib.Dec.{T, leb, leb→le}
-use borrow.Author.Tests.{ne_eqb}
+use lib.Dec.{leb}
+use borrow.Author.Tests.{leb-true, ne_eqb}
 use Rattle.laws.specs.Sum.{sum_ℕ}
 use Rattle.laws.specs.Table.{every}
-use Rattle.laws.proofs.Table.{every_at}
+use Rattle.laws.proofs.Every.{every_each}
 use Rattle.sizes.specs.Size.{is_side}
 use Rattle.sizes.proofs.Side.{each_side}
 use Rattle.kernels.specs.Dct.{dct, dct32}
@@ -17,9 +17,9 @@ use Rattle.kernels.specs.Kernel.{kernel, has_kernel, row_size, SmallRows, RowSum
 unfoldable pub Within : ℕ → ℕ → Type 0
 Within kind n = has_kernel kind n ≡ true → (f : ℕ) → f < n → row_size kind n f ≤ 64 * n
 
-by_test : (kind n : ℕ) → T (every n (λ f. leb (row_size kind n f) (64 * n))) → Within kind n
+by_test : (kind n : ℕ) → every n (λ f. leb (row_size kind n f) (64 * n)) ≡ true → Within kind n
 unfolding Within
-by_test kind n t has f b = leb→le (row_size kind n f) (64 * n) (every_at n (λ f. leb (row_size kind n f) (64 * n)) t f b)
+by_test kind n t has f b = leb-true (row_size kind n f) (64 * n) (every_each n (λ f. leb (row_size kind n f) (64 * n)) t f b)
 
 none : (kind n : ℕ) → (has_kernel kind n ≡ true → ⊥) → Within kind n
 unfolding Within
@@ -32,9 +32,9 @@ no_kernel kind n = rw (ne_eqb (suc (suc kind)) 0 (omega arith), ne_eqb (suc (suc
 
 pub row_size_lem : (kind n : ℕ) → is_side n ≡ true → Within kind n
 unfolding row_size kernel sum_ℕ dct dct32 adst adst16 adst8 adst4 has_kernel
-row_size_lem zero = each_side (Within 0) (by_test 0 4 tt) (by_test 0 8 tt) (by_test 0 16 tt) (by_test 0 32 tt)
+row_size_lem zero = each_side (Within 0) (by_test 0 4 refl) (by_test 0 8 refl) (by_test 0 16 refl) (by_test 0 32 refl)
 row_size_lem (suc zero) =
-    each_side (Within 1) (by_test 1 4 tt) (by_test 1 8 tt) (by_test 1 16 tt)
+    each_side (Within 1) (by_test 1 4 refl) (by_test 1 8 refl) (by_test 1 16 refl)
     (none 1 32 (λ e. false≢true e))
 row_size_lem (suc (suc kind)) = λ n s. none (suc (suc kind)) n (λ e. false≢true (sym (no_kernel kind n) ∙ e))
 

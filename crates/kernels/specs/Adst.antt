@@ -22,7 +22,7 @@ adst16 =
     ∷ pos 17 ∷ negsuc 32 ∷ pos 48 ∷ negsuc 61 ∷ pos 73 ∷ negsuc 80 ∷ pos 87 ∷ negsuc 88 ∷ pos 88 ∷ negsuc 83 ∷ pos 77 ∷ negsuc 66 ∷ pos 55 ∷ negsuc 40 ∷ pos 25 ∷ negsuc 7
     ∷ []
 
--- place k × 8 + f. These 64 numbers are data: nothing is proved of a particular one of them
+-- place k × 8 + f. These 64 numbers are reconstructed (docs/DIFFERENCES.md), and data: nothing is proved of a particular one of them
 unfoldable pub adst8 : List ℤ
 adst8 =
     pos 11 ∷ pos 34 ∷ pos 54 ∷ pos 71 ∷ pos 84 ∷ pos 88 ∷ pos 79 ∷ pos 50

@@ -38,11 +38,15 @@ dct32 =
     ∷ pos 4 ∷ negsuc 12 ∷ pos 22 ∷ negsuc 29 ∷ pos 39 ∷ negsuc 46 ∷ pos 54 ∷ negsuc 60 ∷ pos 67 ∷ negsuc 72 ∷ pos 78 ∷ negsuc 81 ∷ pos 85 ∷ negsuc 87 ∷ pos 90 ∷ negsuc 89 ∷ pos 90 ∷ negsuc 89 ∷ pos 88 ∷ negsuc 84 ∷ pos 82 ∷ negsuc 77 ∷ pos 73 ∷ negsuc 66 ∷ pos 61 ∷ negsuc 53 ∷ pos 47 ∷ negsuc 38 ∷ pos 30 ∷ negsuc 21 ∷ pos 13 ∷ negsuc 3
     ∷ []
 
--- frequency f, sample k at side n: "Row k of a smaller DCT is row 32k/n cut to n columns"
-unfoldable pub dct : ℕ → ℕ → ℕ → ℤ
-dct n f k = get_or dct32 (32 * f / n * 32 + k) (pos 0)
+-- where row f of side n begins: "Row k of a smaller DCT is row 32k/n cut to n columns"
+abbrev pub row_start : ℕ → ℕ → ℕ
+row_start n f = 32 * f / n * 32
 
--- the first m rows of the kernel of side n, one after another
+-- frequency f, sample k at side n
+unfoldable pub dct : ℕ → ℕ → ℕ → ℤ
+dct n f k = get_or dct32 (row_start n f + k) (pos 0)
+
+-- the first m rows of the kernel of side n, one after another. No public contract mentions them
 unfoldable pub dct_rows : ℕ → ℕ → List ℤ
 dct_rows n zero = []
-dct_rows n (suc f) = dct_rows n f ++ take n (drop (32 * f / n * 32) dct32)
+dct_rows n (suc f) = dct_rows n f ++ take n (drop (row_start n f) dct32)

@@ -3,7 +3,8 @@
 // length, and `passes::plain`, the recursion over lengths known at run time, is many times slower.
 ghost use Rattle.std.specs.Prelude.{◌≡◌, true, length};
 ghost use Rattle.sizes.specs.Size.{is_side};
-ghost use Rattle.lines.specs.Stage.{IsKernel, Staging, Completes};
+ghost use Rattle.lines.specs.Stage.{Staging, Completes};
+ghost use Rattle.lines.specs.Table.{IsDct};
 
 use fixed::Shift;
 use lines::{Line, Source, Table, Transform, halve, whole, zeroth};
@@ -12,7 +13,7 @@ use lines::{Line, Source, Table, Transform, halve, whole, zeroth};
 #[derive(Drop)]
 pub(crate) struct Dct<const N: usize> {
     pub(crate) numbers: &'static [i8],
-    ghost kernel: { IsKernel N N numbers.now },
+    ghost kernel: { IsDct N N numbers.now },
     ghost side: { is_side N ≡ true },
 }
 

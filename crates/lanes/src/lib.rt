@@ -9,7 +9,7 @@ ghost use Rattle.sizes.specs.Size.{is_side};
 ghost use Rattle.kernels.specs.Kernel.{has_kernel};
 ghost use Rattle.kernels.specs.Kind.{kind_number};
 ghost use Rattle.lines.specs.Pass.{pass_lines};
-ghost use Rattle.lines.specs.Room.{Room};
+ghost use Rattle.lines.specs.Room.{PassRoom};
 
 use dct::Dct;
 use kernels::Kind;
@@ -25,7 +25,7 @@ pub fn run(
     count: usize,
     dst: &mut [i32],
 )
-    requires { (is_side side ≡ true) × (has_kernel (kind_number kind) side ≡ true) × Room side source.now.lines start count (length source.now.numbers.now) (length dst.old) }
+    requires { (is_side side ≡ true) × (has_kernel (kind_number kind) side ≡ true) × PassRoom side source.now.lines start count (length source.now.numbers.now) (length dst.old) }
     ensures { dst.new ≡ pass_lines (kind_number kind) side source.now.shift.bits source.now.lines source.now.numbers.now start count dst.old }
 {
     match kind {
@@ -36,7 +36,7 @@ pub fn run(
 
 #[tactic(auto, using(lines::proofs::Arm::side_32))]
 fn dct_lines(side: usize, source: &Source<'_>, start: usize, count: usize, dst: &mut [i32])
-    requires { (is_side side ≡ true) × Room side source.now.lines start count (length source.now.numbers.now) (length dst.old) }
+    requires { (is_side side ≡ true) × PassRoom side source.now.lines start count (length source.now.numbers.now) (length dst.old) }
     ensures { dst.new ≡ pass_lines 0 side source.now.shift.bits source.now.lines source.now.numbers.now start count dst.old }
 {
     match side {
@@ -69,7 +69,7 @@ fn dct_lines(side: usize, source: &Source<'_>, start: usize, count: usize, dst: 
 
 #[tactic(auto, using(lines::proofs::Arm::side_16))]
 fn adst_lines(side: usize, source: &Source<'_>, start: usize, count: usize, dst: &mut [i32])
-    requires { (is_side side ≡ true) × (has_kernel 1 side ≡ true) × Room side source.now.lines start count (length source.now.numbers.now) (length dst.old) }
+    requires { (is_side side ≡ true) × (has_kernel 1 side ≡ true) × PassRoom side source.now.lines start count (length source.now.numbers.now) (length dst.old) }
     ensures { dst.new ≡ pass_lines 1 side source.now.shift.bits source.now.lines source.now.numbers.now start count dst.old }
 {
     match side {

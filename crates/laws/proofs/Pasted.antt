@@ -1,15 +1,16 @@
 -- A list with another put over it from a place on. Assumes nothing.
 use mathlib.Core.List.{List, [], ◌∷◌, ◌++◌, append-nil, append_assoc}
-use mathlib.Core.Path.{◌≡◌, refl, sym, ap, ap₂, ◌∙◌}
+use mathlib.Core.Path.{◌≡◌, sym, ap, ap₂, ◌∙◌}
 use Prim.Native.Nat.{ℕ, zero, suc, ◌+◌, ◌-◌, ◌≤◌, ◌<◌}
-use native.Mathlib.Nat.{add-zero, add-suc, add_assoc}
+use native.Mathlib.Nat.{zero-add, add-zero, add-suc, add_assoc}
 use native.Mathlib.Numerals.{add-one}
 use native.Mathlib.Omega.{arith}
-use lib.ListN.{length, get_or, set, take, drop, length-append, length-drop, take-append-drop}
-use lib.Seq.{ext_get_or, set_split, length-take-le, take_at, drop_at, take-take, drop-drop, take-append-le, drop-append_seam}
+use lib.ListN.{length, get_or, set, take, drop, length-append, length-drop, take-append-drop, drop_of_length-le}
+use lib.Seq.{ext_get_or, set_split, length-take-le, take_at, drop_at, take-take, drop-drop}
 use borrow.Rule.Slice.PartMut.{put_mid, Post-is}
 use Rattle.laws.proofs.Laid.{length_tab, get_or_tab, stores_laid}
-use Rattle.laws.specs.Store.{tab, laid, pasted, stores}
+use Rattle.laws.proofs.Part.{rest_is}
+use Rattle.laws.specs.Store.{tab, laid, pasted, over, stores}
 
 module _ {A : Type 0} where
   pub pasted_none : (d : List A) (at : ℕ) → d ≡ pasted d at []
@@ -29,6 +30,16 @@ module _ {A : Type 0} where
   unfolding pasted
   length_pasted d at l h =
       omega (arith, length-append (take at d) (l ++ drop (at + length l) d), length-append l (drop (at + length l) d), length-drop (at + length l) d, length-take-le at d (omega arith))
+
+  -- a list as long as the one that it is put over takes its place
+  pub over_whole : (l d : List A) → length l ≡ length d → over l d ≡ l
+  unfolding pasted
+  over_whole l d e = ap (λ (r : List A). l ++ r) (drop_of_length-le d (omega arith)) ∙ append-nil l
+
+  -- a list in place of the first n of another
+  pub over_front : (l d : List A) {n : ℕ} → length l ≡ n → l ++ drop n d ≡ over l d
+  unfolding pasted
+  over_front l d e = ap (λ (k : ℕ). l ++ drop k d) (omega arith)
 
   -- one list after the other
   pub pasted_both : (d : List A) (at n : ℕ) (l m : List A) → at + length l ≤ length d → n ≡ at + length l → pasted (pasted d at l) n m ≡ pasted d at (l ++ m)
@@ -57,34 +68,10 @@ module _ {A : Type 0} where
   pasted_set d at n l v h e =
       pasted_one (pasted d at l) n v (omega (arith, length_pasted d at l (omega arith))) ∙ pasted_both d at n l (v ∷ []) (omega arith) e
 
-  pub pasted_four : (d : List A) (at : ℕ) (a b c e : A) → at + 4 ≤ length d
-      → set (set (set (set d at a) (at + 1) b) (at + 2) c) (at + 3) e ≡ pasted d at (a ∷ b ∷ c ∷ e ∷ [])
-  pasted_four d at a b c e h =
-      ap (λ (x : List A). set (set (set x (at + 1) b) (at + 2) c) (at + 3) e) (pasted_one d at a (omega arith))
-      ∙ ap (λ (x : List A). set (set x (at + 2) c) (at + 3) e) (pasted_set d at (at + 1) (a ∷ []) b (omega arith) refl)
-      ∙ ap (λ (x : List A). set x (at + 3) e) (pasted_set d at (at + 2) (a ∷ b ∷ []) c (omega arith) refl)
-      ∙ pasted_set d at (at + 3) (a ∷ b ∷ c ∷ []) e (omega arith) refl
-
   -- n more, from a table
   pub pasted_more : (d : List A) (at k n : ℕ) (l : List A) (g : ℕ → A) → at + length l ≤ length d → k ≡ at + length l
       → laid (pasted d at l) k n g ≡ pasted d at (l ++ tab n g)
   pasted_more d at k n l g h e = pasted_laid (pasted d at l) k n g ∙ pasted_both d at k l (tab n g) h e
-
-  -- ---- what is before, and from the place on
-
-  pub pasted_before : (d : List A) (at k : ℕ) (l : List A) → k ≤ at → at ≤ length d → take k (pasted d at l) ≡ take k d
-  unfolding pasted
-  pasted_before d at k l h room =
-      take-append-le k (take at d) (l ++ drop (at + length l) d) (omega (arith, length-take-le at d room)) ∙ take-take k at d h
-
-  pub pasted_from : (d : List A) (at : ℕ) (l : List A) → at ≤ length d → drop at (pasted d at l) ≡ l ++ drop (at + length l) d
-  unfolding pasted
-  pasted_from d at l room = drop_at (take at d) (l ++ drop (at + length l) d) at (length-take-le at d room)
-
-  pub pasted_behind : (d : List A) (at k : ℕ) (l : List A) → at ≤ length d → k ≡ at + length l → drop k (pasted d at l) ≡ drop k d
-  pasted_behind d at k l room e =
-      ap (λ (n : ℕ). drop n (pasted d at l)) e ∙ sym (drop-drop (length l) at (pasted d at l)) ∙ ap (drop (length l)) (pasted_from d at l room)
-      ∙ drop-append_seam l (drop (at + length l) d) ∙ ap (λ (n : ℕ). drop n d) (sym e)
 
   -- a list before another that was put first, where at most the place between them was spoilt
   pub pasted_first : (d out : List A) (at k n : ℕ) (l m : List A) → at ≤ k → n ≡ at + length l → take k out ≡ take k d
@@ -140,3 +127,16 @@ copied d at n z {o} {l} long e room =
     ∙ ap (pasted d at) (sym (tab_get_or o n z long))
     ∙ sym (pasted_laid d at n (λ p. get_or o p z))
     ∙ sym (stores_laid d at n (omega arith) z (λ p. get_or o p z))
+
+-- bytes put at the front of the rest of a buffer
+pub rest_put : {A : Type 0} (out rec : List A) (at : ℕ) {new : List A} → at + length rec ≤ length out → new ≡ over rec (take (length out - at) (drop at out))
+    → put_mid at (length out - at) out new ≡ pasted out at rec
+unfolding pasted
+rest_put {A} out rec at {new} room e =
+    let t = drop at out in
+    let all = over rec t in
+    let long : at + length all ≡ length out = omega (arith, length_pasted t 0 rec (omega (arith, length-drop at out)), length-drop at out) in
+    ap (λ (l : List A). put_mid at (length out - at) out l) (e ∙ ap (over rec) (rest_is out at))
+    ∙ spliced out all at (length out) (sym long)
+    ∙ ap (λ (r : List A). take at out ++ (all ++ r)) (drop_of_length-le out (omega (arith, long)))
+    ∙ ap (λ (r : List A). take at out ++ r) (append-nil all ∙ ap (λ (k : ℕ). rec ++ drop k t) (zero-add (length rec)) ∙ ap (λ (r : List A). rec ++ r) (drop-drop (length rec) at out))

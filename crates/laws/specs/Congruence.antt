@@ -1,4 +1,4 @@
--- Congruence of integers.
+-- Congruence of integers. No public contract mentions it.
 use Rattle.std.specs.Prelude.{◌≡◌, ℕ, ℤ, pos, ◌+ℤ◌, ◌*ℤ◌}
 
 -- a and b differ by a multiple of m

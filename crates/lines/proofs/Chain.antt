@@ -1,43 +1,41 @@
 -- What a chain of stages asks at each length, and what it leaves. Assumes nothing.
-use mathlib.Core.Path.{◌≡◌, refl, sym, ap, ◌∙◌, subst}
+use mathlib.Core.Path.{◌≡◌, refl, sym, ◌∙◌, subst}
 use mathlib.Core.List.{List}
 use Prim.Native.Nat.{ℕ, ◌*◌, ◌≤◌, ◌<◌}
-use native.Mathlib.Nat.{mul_assoc, mul_comm, mul-one}
+use native.Mathlib.Nat.{mul-one}
 use native.Mathlib.Omega.{arith}
 use lib.IntN.{ℤ, pos}
 use lib.ListN.{length, take}
 use Rattle.std.proofs.lemmas.List.{get_or-take}
 use Rattle.laws.specs.Store.{stores}
+use Rattle.laws.proofs.Place.{twice}
 use Rattle.kernels.proofs.Mirror.{Mirrors}
 use Rattle.lines.specs.Line.{line_at, place, rounded, Halving, Halved}
-use Rattle.lines.specs.Stage.{IsKernel, Partly, Finished, Staging, Completes}
+use Rattle.lines.specs.Stage.{Partly, Finished, Staging, Completes}
+use Rattle.lines.specs.Table.{IsDct}
 use Rattle.lines.proofs.Reach.{halving}
 use Rattle.lines.proofs.Stage.{begin, stage, finish}
 
--- half the length at twice the step is the same side
-same_side : (h step : ℕ) → 2 * h * step ≡ h * (2 * step)
-same_side h step = ap (λ (k : ℕ). k * step) (mul_comm 2 h) ∙ mul_assoc h 2 step
-
 module _ (h step : ℕ) {fs sample count lo : ℕ} {ts : List ℤ} (r : Staging (2 * h) step fs sample count lo ts) where
   pub halving_asked : 0 < h → (sample ≡ 1) × Halving fs h step (length ts) count lo
-  halving_asked some = (r.plain, halving (2 * h * step) h step refl r.small some r.some r.kernel r.whole r.room)
+  halving_asked some = (r.side_by_side, halving (2 * h * step) h step refl r.small some r.some r.kernel r.whole r.room)
 
   pub rest_asked : {count' lo' : ℕ} → count' ≡ h → lo' ≡ lo → Staging h (2 * step) fs sample count' lo' ts
   rest_asked whole long =
       record {
         some = let s = r.some in omega arith;
-        small = subst (λ (n : ℕ). n ≤ 32) (same_side h step) r.small;
-        kernel = subst (λ (n : ℕ). IsKernel n fs ts) (same_side h step) r.kernel;
-        plain = r.plain;
+        small = subst (λ (n : ℕ). n ≤ 32) (sym (twice step h)) r.small;
+        kernel = subst (λ (n : ℕ). IsDct n fs ts) (sym (twice step h)) r.kernel;
+        side_by_side = r.side_by_side;
         whole = whole;
-        room = let e = same_side h step in let b = r.room in omega arith;
+        room = let e = twice step h in let b = r.room in omega arith;
       }
 
   module _ (mirrors : Mirrors (2 * h)) {shift : ℕ} {xs : List ℤ} {at stride : ℕ} {o ss o₁ o' : List ℤ} (f : Halved fs h step shift ts xs at stride o ss o₁) where
     pub completed : Completes h (2 * step) shift ss 0 1 o₁ o' → Completes (2 * h) step shift xs at stride o o'
     completed c x p =
-        subst (λ (n : ℕ). Finished n shift x o') (sym (same_side h step))
-        (c x (subst (λ (n : ℕ). Partly n (2 * step) h shift x ss 0 1 o₁) (same_side h step) (stage (2 * h * step) h step refl r.some mirrors r.kernel p f)))
+        subst (λ (n : ℕ). Finished n shift x o') (twice step h)
+        (c x (subst (λ (n : ℕ). Partly n (2 * step) h shift x ss 0 1 o₁) (sym (twice step h)) (stage (2 * h * step) h step refl r.some mirrors r.kernel p f)))
 
 -- the last stage, and the number that remains
 pub last_completed : (step : ℕ) {fs sample count lo : ℕ} {ts : List ℤ} → Staging 2 step fs sample count lo ts → Mirrors 2
@@ -48,14 +46,14 @@ last_completed step r mirrors f e x p =
     finish (2 * step) (omega arith) r.kernel (stage (2 * step) 1 step refl r.some mirrors r.kernel p f) e
 
 -- all stages of a side
-pub whole_asked : (n : ℕ) {fs sample count lo : ℕ} {ts : List ℤ} → n ≤ 32 → IsKernel n fs ts → sample ≡ 1 → count ≡ n → n ≤ lo
+pub whole_asked : (n : ℕ) {fs sample count lo : ℕ} {ts : List ℤ} → n ≤ 32 → IsDct n fs ts → sample ≡ 1 → count ≡ n → n ≤ lo
     → Staging n 1 fs sample count lo ts
-whole_asked n {fs} {sample} {count} {lo} {ts} small kernel plain whole room =
+whole_asked n {fs} {sample} {count} {lo} {ts} small kernel side_by_side whole room =
     record {
       some = omega arith;
       small = omega (arith, mul-one n);
-      kernel = subst (λ (m : ℕ). IsKernel m fs ts) (sym (mul-one n)) kernel;
-      plain = plain;
+      kernel = subst (λ (m : ℕ). IsDct m fs ts) (sym (mul-one n)) kernel;
+      side_by_side = side_by_side;
       whole = whole;
       room = omega (arith, mul-one n);
     }

@@ -11,12 +11,12 @@ use Rattle.fixed.specs.Fixed.{round_shift}
 use Rattle.kernels.specs.Kernel.{kernel}
 use Rattle.lines.specs.Pass.{pass_sum, pass_at}
 
-pub pass_from : (kind n shift line : ℕ) (src : List ℤ) (start j f : ℕ)
-    → pass_at kind n shift line (drop start src) j f ≡ pass_at kind n shift line src (start + j) f
+pub pass_from : (kind n shift lines : ℕ) (src : List ℤ) (start j f : ℕ)
+    → pass_at kind n shift lines (drop start src) j f ≡ pass_at kind n shift lines src (start + j) f
 unfolding pass_at pass_sum
-pass_from kind n shift line src start j f =
+pass_from kind n shift lines src start j f =
     ap (round_shift shift)
     (sum_same n _ _
     (λ k b.
     ap (λ (z : ℤ). kernel kind n f k *ℤ z)
-    (get_or-drop start src (k * line + j) (pos 0) ∙ ap (λ (p : ℕ). get_or src p (pos 0)) (omega arith))))
+    (get_or-drop start src (k * lines + j) (pos 0) ∙ ap (λ (p : ℕ). get_or src p (pos 0)) (omega arith))))

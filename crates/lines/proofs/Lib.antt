@@ -4,6 +4,6 @@ pub mod From
 pub mod Line
 pub mod Loop
 pub mod Reach
-pub mod Reading
+pub mod Adst
 pub mod Stage
 pub mod Sum

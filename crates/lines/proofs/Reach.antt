@@ -1,35 +1,15 @@
 -- Where the pieces of a line read and store lies within their buffers. Assumes nothing.
 use mathlib.Core.Path.{◌≡◌, ap}
 use Prim.Native.Nat.{ℕ, ◌+◌, ◌-◌, ◌*◌, ◌≤◌, ◌<◌}
-use native.Mathlib.Nat.{zero-mul, mul-one, one-mul, add-mul, mul-le-mul_left, mul-le-mul_right}
+use native.Mathlib.Nat.{mul-one, one-mul, add-mul, mul-le-mul_left, mul-le-mul_right}
 use native.Mathlib.Omega.{arith}
 use mathlib.Core.List.{List}
 use lib.Arith.{digits_lt}
 use lib.IntN.{ℤ}
 use lib.ListN.{length}
 use Rattle.lines.specs.Line.{EndsIn, place, InReach, Halving}
-use Rattle.lines.specs.Stage.{IsKernel}
+use Rattle.lines.specs.Table.{IsDct}
 use Rattle.lines.proofs.Stage.{odd_place}
-
--- number k of a line that ends within a list stands within it
-pub reaches : {n stride at l : ℕ} (k : ℕ) → k < n → EndsIn n stride at l → k * stride + at < l
-reaches {n} {stride} k b e =
-    let s = e.last in let m : (k + 1) * stride ≤ n * stride = mul-le-mul_right stride (omega arith) in omega (arith, add-mul k 1 stride, one-mul stride)
-
--- a line of m numbers, one after another from 0 on
-pub whole : (m : ℕ) {l : ℕ} → m ≤ l → EndsIn m 1 0 l
-whole m b = record { last = omega (arith, mul-one m) }
-
-pub zeroth_reach : {fs lt lo : ℕ} → 0 < lt → 0 < lo → InReach 1 0 1 1 fs 1 lt lo
-zeroth_reach {fs} a b =
-    record {
-      some = omega arith;
-      table = λ r k i j. let z : r ≡ 0 = omega arith in let e = row r z in omega arith;
-      stored = λ r i. omega arith;
-    }
-  where
-    row : (r : ℕ) → r ≡ 0 → place 0 1 r * fs ≡ 0
-    row r z = rw z (zero-mul fs)
 
 -- a row of a table within reach
 pub row_ends : {count first apart taps fs ks lt lo : ℕ} (r : ℕ) → r < count → InReach count first apart taps fs ks lt lo
@@ -40,7 +20,7 @@ row_ends {count} {first} {apart} {taps} {fs} {ks} r b reach =
     record { last = omega (arith, add-mul (taps - 1) 1 ks, one-mul ks) }
 
 -- a stage's odd frequencies, where the table is that of side n
-odds_reach : (n h s : ℕ) {fs lo : ℕ} {ts : List ℤ} → n ≡ 2 * h * s → 0 < h → 0 < s → IsKernel n fs ts → n ≤ lo
+odds_reach : (n h s : ℕ) {fs lo : ℕ} {ts : List ℤ} → n ≡ 2 * h * s → 0 < h → 0 < s → IsDct n fs ts → n ≤ lo
     → InReach h s (2 * s) h fs 1 (length ts) lo
 odds_reach n h s {fs} {lo} {ts} e a b t o =
     record {
@@ -59,7 +39,7 @@ odds_reach n h s {fs} {lo} {ts} e a b t o =
         omega (arith, mul-one k)
 
 -- a stage of a side of at most 32
-pub halving : (n h s : ℕ) {fs count lo : ℕ} {ts : List ℤ} → n ≡ 2 * h * s → n ≤ 32 → 0 < h → 0 < s → IsKernel n fs ts
+pub halving : (n h s : ℕ) {fs count lo : ℕ} {ts : List ℤ} → n ≡ 2 * h * s → n ≤ 32 → 0 < h → 0 < s → IsDct n fs ts
     → count ≡ 2 * h → n ≤ lo → Halving fs h s (length ts) count lo
 halving n h s e small a b t twice room =
     let i : 2 * h * 1 ≤ 2 * h * s = mul-le-mul_left (2 * h) b in

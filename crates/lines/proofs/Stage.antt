@@ -4,7 +4,7 @@ use mathlib.Core.Path.{◌≡◌, sym, ap, ap₂, ◌∙◌, subst}
 use mathlib.Core.Logic.{⊎_elim}
 use mathlib.Core.List.{List}
 use Prim.Native.Nat.{ℕ, zero, suc, ◌+◌, ◌-◌, ◌*◌, ◌^◌, ◌≤◌, ◌<◌}
-use native.Mathlib.Nat.{mul_assoc, mul_comm, mul-one, one-mul, zero-mul, add-mul, mul-le-mul_left, mul-le-mul_right, eq-or-lt_of_le}
+use native.Mathlib.Nat.{mul_comm, mul-one, one-mul, zero-mul, add-mul, mul-le-mul_left, mul-le-mul_right, eq-or-lt_of_le}
 use native.Mathlib.Omega.{arith}
 use lib.Arith.{digits_lt}
 use lib.IntN.{ℤ, pos, ◌+ℤ◌, ◌-ℤ◌, ◌*ℤ◌}
@@ -13,24 +13,22 @@ use Rattle.laws.specs.Sum.{sum_to}
 use Rattle.laws.specs.Store.{stores}
 use Rattle.laws.proofs.Sum.{sum_same, sum_cong, even_fold, odd_fold}
 use Rattle.laws.proofs.Store.{stores_in, stores_out, length_stores}
-use Rattle.laws.proofs.Place.{place_same, split}
+use Rattle.laws.proofs.Place.{place_same, split, twice}
 use Rattle.laws.proofs.Congruence.{Cong, cong_refl, cong_trans, cong_eq, cong_add, cong_sub, cong_mul}
 use Rattle.laws.proofs.Wrap.{wrap32_is}
 use Rattle.fixed.specs.Fixed.{round_shift}
 use Rattle.fixed.proofs.Round.{round_shift_cong}
 use Rattle.kernels.specs.Dct.{dct}
 use Rattle.kernels.proofs.Dct.{dct_scale}
-use Rattle.kernels.proofs.Mirror.{Mirrors, turned_even, turned_odd}
-use Rattle.lines.specs.Stage.{dct_sum, IsKernel, Folded, Settled, Partly, Finished}
+use Rattle.kernels.proofs.Mirror.{Mirrors, even_kept, odd_negated}
+use Rattle.lines.specs.Stage.{dct_sum, Folded, Settled, Partly, Finished}
+use Rattle.lines.specs.Table.{IsDct}
 use Rattle.lines.specs.Line.{line_at, row_sum, place, rounded, Butterfly, Halved}
 
 -- ---- one fold
 
 first : (k : ℕ) → k * 1 + 0 ≡ k
 first k = omega arith
-
-twice : (s g : ℕ) → g * (2 * s) ≡ 2 * g * s
-twice s g = sym (mul_assoc g 2 s) ∙ ap (λ (i : ℕ). i * s) (mul_comm g 2)
 
 pub odd_place : (s q : ℕ) → place s (2 * s) q ≡ (2 * q + 1) * s
 odd_place s q = omega (arith, twice s q, add-mul (2 * q) 1 s, one-mul s)
@@ -40,7 +38,7 @@ module _ (n h s : ℕ) (x : ℕ → ℤ) (mirrors : Mirrors (2 * h)) where
   unfolding dct_sum Mirrors
   even_row y g b =
       even_fold h (dct (2 * h) (2 * g)) y
-      (λ k l. mirrors (2 * g) k (omega arith) (omega arith) ∙ turned_even g (dct (2 * h) (2 * g) k))
+      (λ k l. mirrors (2 * g) k (omega arith) (omega arith) ∙ even_kept g (dct (2 * h) (2 * g) k))
       ∙ sum_same h _ _
       (λ k l. ap (λ (z : ℤ). z *ℤ (y k +ℤ y (2 * h - 1 - k)))
       (ap₂ (λ (a c : ℕ). dct a c k) (mul_comm 2 h) (mul_comm 2 g) ∙ dct_scale h 2 g k (omega arith)))
@@ -50,7 +48,7 @@ module _ (n h s : ℕ) (x : ℕ → ℤ) (mirrors : Mirrors (2 * h)) where
   unfolding dct_sum Mirrors
   odd_row y g b =
       odd_fold h (dct (2 * h) (2 * g + 1)) y
-      (λ k l. mirrors (2 * g + 1) k (omega arith) (omega arith) ∙ turned_odd g (dct (2 * h) (2 * g + 1) k))
+      (λ k l. mirrors (2 * g + 1) k (omega arith) (omega arith) ∙ odd_negated g (dct (2 * h) (2 * g + 1) k))
 
   module _ (xs : List ℤ) (at stride : ℕ) (ss ds : List ℤ) (f : Folded n s (2 * h) x xs at stride) (b : Butterfly h xs at stride ss ds) where
     folded_next : Folded n (2 * s) h x ss 0 1
@@ -65,7 +63,7 @@ module _ (n h s : ℕ) (x : ℕ → ℤ) (mirrors : Mirrors (2 * h)) where
         }
 
     -- what `odds` computes
-    odd_is : (shift fs : ℕ) (ts : List ℤ) → IsKernel n fs ts → n ≡ 2 * h * s → 0 < s → (q : ℕ) → q < h
+    odd_is : (shift fs : ℕ) (ts : List ℤ) → IsDct n fs ts → n ≡ 2 * h * s → 0 < s → (q : ℕ) → q < h
         → rounded shift h ts s (2 * s) fs 1 ds 0 1 q ≡ round_shift shift (dct_sum n (place s (2 * s) q) x)
     unfolding row_sum
     odd_is shift fs ts t e some q l =
@@ -147,7 +145,7 @@ begin n shift xs at stride o long =
     }
 
 pub stage : (n h s : ℕ) {shift fs : ℕ} {x : ℕ → ℤ} {xs : List ℤ} {at stride : ℕ} {o ss o' ts : List ℤ} → n ≡ 2 * h * s → 0 < s
-    → Mirrors (2 * h) → IsKernel n fs ts → Partly n s (2 * h) shift x xs at stride o
+    → Mirrors (2 * h) → IsDct n fs ts → Partly n s (2 * h) shift x xs at stride o
     → Halved fs h s shift ts xs at stride o ss o'
     → Partly n (2 * s) h shift x ss 0 1 o'
 stage n h s {shift} {fs} {x} {xs} {at} {stride} {o} {ss} {o'} {ts} e some mirrors t p f =
@@ -162,7 +160,7 @@ stage n h s {shift} {fs} {x} {xs} {at} {stride} {o} {ss} {o'} {ts} e some mirror
       long = omega (arith, p.long, ap length u, length_stores o h (place s (2 * s)) (rounded shift h ts s (2 * s) fs 1 ds 0 1));
     }
 
-zeroth : (n shift fs : ℕ) {x : ℕ → ℤ} {xs : List ℤ} {at stride : ℕ} {ts : List ℤ} → 0 < n → IsKernel n fs ts
+zeroth : (n shift fs : ℕ) {x : ℕ → ℤ} {xs : List ℤ} {at stride : ℕ} {ts : List ℤ} → 0 < n → IsDct n fs ts
     → Folded n n 1 x xs at stride → rounded shift 1 ts 0 1 fs 1 xs at stride 0 ≡ round_shift shift (dct_sum n 0 x)
 unfolding row_sum dct_sum
 zeroth n shift fs {x} {xs} {at} {stride} {ts} some t f =
@@ -179,7 +177,7 @@ zeroth n shift fs {x} {xs} {at} {stride} {ts} some t f =
     whole e = ap (λ (i : ℕ). dct_sum n i x) (sym (zero-mul n)) ∙ e
 
 -- the number that remains is frequency 0's
-pub finish : (n : ℕ) {shift fs : ℕ} {x : ℕ → ℤ} {xs : List ℤ} {at stride : ℕ} {o o' ts : List ℤ} → 0 < n → IsKernel n fs ts
+pub finish : (n : ℕ) {shift fs : ℕ} {x : ℕ → ℤ} {xs : List ℤ} {at stride : ℕ} {o o' ts : List ℤ} → 0 < n → IsDct n fs ts
     → Partly n n 1 shift x xs at stride o → o' ≡ stores o 1 (place 0 1) (rounded shift 1 ts 0 1 fs 1 xs at stride)
     → Finished n shift x o'
 finish n {shift} {fs} {x} {xs} {at} {stride} {o} {o'} {ts} some t p u = record { at = settle }

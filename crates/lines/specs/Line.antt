@@ -1,4 +1,4 @@
--- What the pieces of a line give, over the integers.
+-- What the pieces of a line give, over the integers. No public contract mentions them.
 use Rattle.std.specs.Prelude.{List, ◌≡◌, ℕ, ◌+◌, ◌-◌, ◌*◌, ◌≤◌, ◌<◌, ℤ, pos, ◌+ℤ◌, ◌-ℤ◌, ◌*ℤ◌, get_or}
 use Rattle.laws.specs.Integer.{wrap32}
 use Rattle.laws.specs.Store.{stores}

@@ -1,19 +1,15 @@
--- A DCT by stages: what is left of a line on its way, and what is settled of its frequencies.
+-- A DCT by stages: what is left of a line on its way, and what is settled of its frequencies. No public contract mentions it.
 use Rattle.std.specs.Prelude.{◌≡◌, List, ℕ, ◌+◌, ◌*◌, ◌^◌, ◌≤◌, ◌<◌, ℤ, pos, ◌*ℤ◌, length, get_or}
 use Rattle.laws.specs.Sum.{sum_to}
 use Rattle.laws.specs.Congruence.{Cong}
 use Rattle.fixed.specs.Fixed.{round_shift}
 use Rattle.kernels.specs.Dct.{dct}
 use Rattle.lines.specs.Line.{line_at}
+use Rattle.lines.specs.Table.{IsDct}
 
 -- frequency f of a line x of n numbers, exactly
 unfoldable pub dct_sum : ℕ → ℕ → (ℕ → ℤ) → ℤ
 dct_sum n f x = sum_to n (λ k. dct n f k *ℤ x k)
-
--- ts has the kernel of side n, frequency f from place f × fs on
-pub record IsKernel (n fs : ℕ) (ts : List ℤ) : Type 0 where
-  pub entry : (f k : ℕ) → f < n → k < n → get_or ts (f * fs + k) (pos 0) ≡ dct n f k
-  pub inside : (f k : ℕ) → f < n → k < n → f * fs + k < length ts
 
 -- m numbers are left of a line x of n: modulo 2 ^ 32 they are y, whose frequencies at side m are every s-th of x at side n
 pub record Folded (n s m : ℕ) (x : ℕ → ℤ) (xs : List ℤ) (at stride : ℕ) : Type 0 where
@@ -40,8 +36,8 @@ pub record Finished (n shift : ℕ) (x : ℕ → ℤ) (o : List ℤ) : Type 0 wh
 pub record Staging (m step fs sample count lo : ℕ) (ts : List ℤ) : Type 0 where
   pub some : 0 < step
   pub small : m * step ≤ 32
-  pub kernel : IsKernel (m * step) fs ts
-  pub plain : sample ≡ 1
+  pub kernel : IsDct (m * step) fs ts
+  pub side_by_side : sample ≡ 1
   pub whole : count ≡ m
   pub room : m * step ≤ lo
 

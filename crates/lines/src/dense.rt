@@ -1,6 +1,6 @@
 // The ADST of a line, by dense sums.
 ghost use Rattle.std.specs.Prelude.{length};
-ghost use Rattle.lines.specs.Room.{Reading};
+ghost use Rattle.lines.specs.Table.{IsAdst};
 
 use super::spaced::Source;
 use super::table::{Table, frequencies};
@@ -10,7 +10,7 @@ use super::transform::Transform;
 #[derive(Drop)]
 pub struct Dense<'a, const N: usize, const F: usize, const K: usize> {
     pub numbers: &'a [i8],
-    ghost reads: { Reading N F K numbers.now },
+    ghost reads: { IsAdst N F K numbers.now },
 }
 
 impl<'a, const N: usize, const F: usize, const K: usize> Transform for Dense<'a, N, F, K> {

@@ -2,7 +2,7 @@
 ghost use Rattle.std.specs.Prelude.{◌≡◌, ◌<◌, ◌≤◌, ℕ, length};
 ghost use Rattle.laws.specs.Store.{stores};
 ghost use Rattle.lines.specs.Pass.{pass_at, pass_lines};
-ghost use Rattle.lines.specs.Room.{Room, LineRoom, on_line};
+ghost use Rattle.lines.specs.Room.{PassRoom, LineRoom, on_line};
 
 use super::spaced::Source;
 
@@ -27,7 +27,7 @@ pub fn each_line<T: Transform>(
     dst: &mut [i32],
 )
     requires side { (0 < T.side transform.now) × (T.side transform.now ≤ 32) }
-    requires room { Room (T.side transform.now) source.now.lines start count (length source.now.numbers.now) (length dst.old) }
+    requires room { PassRoom (T.side transform.now) source.now.lines start count (length source.now.numbers.now) (length dst.old) }
     ensures { dst.new ≡ pass_lines (T.kind transform.now) (T.side transform.now) source.now.shift.bits source.now.lines source.now.numbers.now start count dst.old }
 {
     // A copy, so that what is stored in dst can't be thought to change it.
@@ -48,7 +48,7 @@ pub fn by_fours<T: Transform>(
     dst: &mut [i32],
 )
     requires eight { T.side transform.now ≡ 8 }
-    requires room { Room 8 source.now.lines start count (length source.now.numbers.now) (length dst.old) }
+    requires room { PassRoom 8 source.now.lines start count (length source.now.numbers.now) (length dst.old) }
     ensures { dst.new ≡ pass_lines (T.kind transform.now) 8 source.now.shift.bits source.now.lines source.now.numbers.now start count dst.old }
 {
     let source = *source;

@@ -1,10 +1,11 @@
 -- The bits of a map that stand, counted by its bytes. Assumes nothing.
-use Rattle.std.proofs.Common.{◌≡◌, ℕ, zero, suc, ◌+◌, ◌*◌, ◌/◌, ◌%◌, ◌^◌, ◌<◌, cond, eqb, List, get_or, sym, refl, ap, ◌∙◌, ap₂, mod-lt, pow-suc, div-one, arith, lit<}
+use Rattle.std.proofs.Common.{◌≡◌, ℕ, zero, suc, ◌+◌, ◌*◌, ◌/◌, ◌%◌, ◌^◌, ◌<◌, List, get_or, sym, refl, ap, ◌∙◌, ap₂, mod-lt, pow-suc, div-one, arith, lit<}
 use native.Mathlib.Nat.{div-div-eq-div-mul}
 use lib.Count.{ones, ones_step}
 use Rattle.format.specs.Pieces.{bit_of, standing}
 use Rattle.format.specs.Format.{bit_in, count_in}
 use Rattle.format.proofs.Listed.{standing_add, standing_same}
+use Rattle.laws.proofs.Bool.{bit_is}
 use Rattle.laws.specs.Sum.{sum_ℕ}
 
 -- bit i of the byte at q / 8
@@ -14,12 +15,6 @@ bit_at s q i e h =
     let j : (q + i) / 8 ≡ q / 8 = omega arith in
     let k : (q + i) % 8 ≡ i = omega arith in
     ap₂ (λ (a b : ℕ). bit_of (get_or s (5 + a) 0) b) j k
-
--- a bit as a number
-pub bit_is : (n : ℕ) → n < 2 → cond (eqb n 1) 1 0 ≡ n
-bit_is zero h = refl
-bit_is (suc zero) h = refl
-bit_is (suc (suc n)) h = absurd (omega arith)
 
 -- ---- counting by bytes
 

@@ -22,6 +22,11 @@ pub record Looks (s : List ℕ) (at low count places : ℕ) : Type 0 where
 pub told_record : (s : List ℕ) (low at : ℕ) {a : Answer} → a ≡ record_answer low (take (length s - at) (drop at s)) → a ≡ record_answer low (drop at s)
 told_record s low at e = e ∙ ap (record_answer low) (rest_is s at)
 
+-- a record that is read lies within the bytes
+pub told_room : {s : List ℕ} {at low : ℕ} {done : List Block} → Passed s at low done → at < length s → {m : ℕ}
+    → answers m ≡ record_answer low (take (length s - at) (drop at s)) → (5 ≤ m) × (at + m ≤ length s)
+told_room {s} {at} {low} p h e = let r = more_room p h (told_record s low at e) in (r.0, r.1)
+
 pub looks_none : (s : List ℕ) → Looks s 0 0 0 0
 unfolding sum_of
 looks_none s = record { done = []; passed = passed_none s; many = refl; wide = refl; bound = omega arith }
@@ -40,9 +45,6 @@ module _ {s : List ℕ} {at low count places : ℕ} (l : Looks s at low count pl
 
   -- a record more, as it is read
   module _ (h : at < length s) {m : ℕ} (e : answers m ≡ record_answer low (take (length s - at) (drop at s))) where
-    pub looks_room : (5 ≤ m) × (at + m ≤ length s)
-    looks_room = let r = more_room l.passed h (told_record s low at e) in (r.0, r.1)
-
     pub looks_few : {p : ℕ} → p ≡ places_in (take (length s - at) (drop at s)) → (p ≤ 1024) × (count + 1 ≤ 2 ^ 33) × (places ≤ 2 ^ 43)
     looks_few {p} f =
         let z = (sized_in (take (length s - at) (drop at s))).most in

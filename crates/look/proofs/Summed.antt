@@ -1,5 +1,5 @@
 -- What the loop over the levels of a record knows. Assumes nothing.
-use Rattle.std.proofs.Common.{◌≡◌, ℕ, ◌+◌, ◌-◌, ◌/◌, ◌%◌, ◌^◌, ◌<◌, ◌≤◌, true, false, not, ◌&&◌, eqb, ltb, leb, List, nat_abs, sym, refl, ap, ◌∙◌, ⊎_elim, arith, le-ltb, lt-ltb, eq-eqb, ne_eqb, le-leb}
+use Rattle.std.proofs.Common.{◌≡◌, ℕ, ◌+◌, ◌-◌, ◌/◌, ◌%◌, ◌^◌, ◌<◌, not, ◌&&◌, eqb, ltb, leb, List, nat_abs, refl, ap, ◌∙◌, ⊎_elim, arith, le-ltb, lt-ltb, eq-eqb, ne_eqb, le-leb}
 use borrow.Author.Tests.{lt-leb}
 use lib.Bits.{bit_or, or_comm}
 use Rattle.laws.proofs.Bits.{or_ltb}
@@ -43,10 +43,3 @@ summed_more {s} {lower} {upper} {reach} {i} h {m} level small =
           ∙ every_turn (λ i. stands (listed_in s i) && is_near (listed_in s i)) i
           (right_before m x (omega arith) (omega arith) ∙ ap (λ (n : ℕ). not (eqb n 0) && leb n (2 ^ 30)) level) h.right;
     }
-
--- the test at the end
-pub summed_right : {s : List ℕ} {lower upper reach i : ℕ} → Summed s lower upper reach i → reach < 2 ^ 30 → are_right s i ≡ true
-summed_right {reach = reach} h l = sym h.right ∙ lt-ltb reach (2 ^ 30) l
-
-pub summed_wrong : {s : List ℕ} {lower upper reach i : ℕ} → Summed s lower upper reach i → 2 ^ 30 ≤ reach → are_right s i ≡ false
-summed_wrong {reach = reach} h l = sym h.right ∙ le-ltb reach (2 ^ 30) l

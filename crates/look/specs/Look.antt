@@ -15,7 +15,7 @@ area_of b = b.w * b.h
 abbrev pub places_of : List Block → ℕ
 places_of bs = sum_of area_of bs
 
--- "The reader answers the blocks read"
+-- "The reader answers the blocks read". No public contract mentions it
 abbrev pub counted : Found → Answer
 counted (blocks bs) = answers (length bs)
 counted (damage k) = refuses k
@@ -27,13 +27,13 @@ list_found (damage k) = []
 
 -- ---- one record: s is the bytes from its first on
 
--- how many levels it lists, and the sum of their magnitudes
+-- how many levels it lists, and the sum of their magnitudes. No public contract mentions them
 abbrev pub listed_count : List ℕ → ℕ
 listed_count s = count_in s (places_in s)
 
 unfoldable pub listed_sum : List ℕ → ℕ
 listed_sum s = sum_ℕ (listed_count s) (λ i. unsigned_abs (listed_in s i))
 
--- whether the first n are nonzero and "within 2^30 of zero"
+-- whether the first n are nonzero and "within 2^30 of zero". No public contract mentions it
 abbrev pub are_right : List ℕ → ℕ → Bool
 are_right s n = every n (λ i. stands (listed_in s i) && is_near (listed_in s i))

@@ -1,22 +1,19 @@
 -- What `mizdrek_quantize_one` leaves is finite, or as it was. Assumes nothing.
-use mathlib.Core.Bool.{Bool, true, false, not, cond, false≢true, true≢false}
-use mathlib.Core.List.{[], ◌∷◌}
+use mathlib.Core.Bool.{Bool, true, false, cond, false≢true, true≢false}
 use mathlib.Core.Path.{refl}
 use lib.Ieee.{Float}
-use Rattle.answer.specs.Answer.{lowest}
 use Rattle.quant.specs.Finite.{AllFinite}
 use Rattle.quant.specs.Level.{level_at, magnitude_at}
-use Rattle.quant.specs.Place.{Said, dropped, kept, is_kept, place_of, unless, one_answer}
+use Rattle.quant.specs.Place.{Said, refused, dropped, kept, is_kept, place_of, one_answer}
 use Rattle.quant.specs.Settings.{settings_ok, coefficient_ok}
 use Rattle.quant.proofs.Finite.{one_finite}
 use Rattle.mizdrek.specs.Finite.{Left, LeftFinite}
 
 -- by the three tests of a place with a level l and a magnitude m
 abbrev answered : Bool → Bool → Bool → Float → Float → Said
-answered a b t l m = unless (lowest ((not a, 7) ∷ (not b, 9) ∷ []) 1) (cond t (kept l m) (dropped m))
+answered a b t l m = cond a (cond b (cond t (kept l m) (dropped m)) (refused 9)) (refused 7)
 
 left : (a b t : Bool) (l m level magnitude : Float) → AllFinite (answered a b t l m) → Left (answered a b t l m) level magnitude
-unfolding lowest
 left false b t l m level magnitude f = record { accepted = λ e. absurd (false≢true e); refused = λ e. (refl, refl) }
 left true false t l m level magnitude f = record { accepted = λ e. absurd (false≢true e); refused = λ e. (refl, refl) }
 left true true true l m level magnitude f = record { accepted = λ e. f; refused = λ e. absurd (true≢false e) }

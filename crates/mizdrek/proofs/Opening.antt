@@ -5,7 +5,7 @@ use lib.Dec.{T, lit<}
 use lib.IntN.{ℤ}
 use Rattle.answer.specs.Answer.{told, is_small}
 use Rattle.answer.proofs.Answer.{lowest_small, signed_asked}
-use Rattle.block.specs.Answer.{refusals}
+use Rattle.block.specs.Call.{refusals}
 use Rattle.tickets.specs.Open.{Opening, open_answer}
 use Rattle.tickets.specs.declared.Batched.{Batched}
 

@@ -4,9 +4,9 @@ use Rattle.std.specs.Float.{fin}
 use Rattle.quant.specs.Place.{Said, refused, dropped, kept}
 use Rattle.quant.specs.declared.Settings.{Settings}
 
--- the settings card
-abbrev pub card : Float → Float → Float → Settings
-card factor threshold zone = record { factor = factor; threshold = threshold; dead_zone = zone }
+-- the settings, of the three numbers that C hands over
+abbrev pub settings_of : Float → Float → Float → Settings
+settings_of factor threshold zone = record { factor = factor; threshold = threshold; dead_zone = zone }
 
 -- 0 dropped, 1 kept, minus the number where the call is refused
 abbrev pub signed_one : Said → ℤ

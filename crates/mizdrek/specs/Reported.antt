@@ -12,6 +12,6 @@ abbrev pub levels_given : Reported → ℕ → ℕ
 levels_given (totals b l m) old = l
 levels_given (refused k) old = old
 
-abbrev pub magnitude_given : Reported → ℕ → ℕ
-magnitude_given (totals b l m) old = m
-magnitude_given (refused k) old = old
+abbrev pub sum_given : Reported → ℕ → ℕ
+sum_given (totals b l m) old = m
+sum_given (refused k) old = old

@@ -2,10 +2,10 @@
 ghost use Rattle.std.specs.Prelude.{◌≡◌, length};
 ghost use Rattle.answer.specs.Answer.{signed_of};
 ghost use Rattle.format.specs.Format.{parse};
-ghost use Rattle.reader.specs.Reading.{read_answer, numbers_after, sides_after, levels_after};
+ghost use Rattle.reader.specs.Read.{read_answer, numbers_after, sides_after, levels_after};
 ghost use Rattle.totals.specs.Totals.{report_of};
-ghost use Rattle.writer.specs.Writing.{write_answer, bytes_after};
-ghost use Rattle.mizdrek.specs.Reported.{signed_report, levels_given, magnitude_given};
+ghost use Rattle.writer.specs.Write.{write_answer, bytes_after};
+ghost use Rattle.mizdrek.specs.Reported.{signed_report, levels_given, sum_given};
 
 #[unsafe(no_mangle)]
 pub extern "C" fn mizdrek_read_records(
@@ -44,7 +44,7 @@ pub extern "C" fn mizdrek_write_records(
 pub extern "C" fn mizdrek_report(bytes: &[u8], levels: &mut u64, magnitude: &mut u64) -> i64
     ensures value { result ≡ signed_report (report_of bytes.now) }
     ensures levels_after { levels.new ≡ levels_given (report_of bytes.now) levels.old }
-    ensures magnitude_after { magnitude.new ≡ magnitude_given (report_of bytes.now) magnitude.old }
+    ensures magnitude_after { magnitude.new ≡ sum_given (report_of bytes.now) magnitude.old }
 {
     match totals::add_up(bytes) {
         Err(why) => answer::signed(Err(why)),

@@ -64,12 +64,12 @@ pub extern "C" fn mizdrek_tile_columns(
     residuals: &[i32],
     scratch: &mut [i32],
     start: usize,
-    lines: usize,
+    count: usize,
 ) -> i64
-    ensures { SignedKept (columns_in plane.old room tile (batch_of false start lines) residuals.now scratch.old)
+    ensures { SignedKept (columns_in plane.old room tile (batch_of false start count) residuals.now scratch.old)
         result plane.new scratch.new }
 {
-    tiles::columns(*plane, room, tile, residuals, scratch, start, lines).store(plane)
+    tiles::columns(*plane, room, tile, residuals, scratch, start, count).store(plane)
 }
 
 #[unsafe(no_mangle)]
@@ -80,10 +80,10 @@ pub extern "C" fn mizdrek_tile_rows(
     scratch: &[i32],
     output: &mut [i32],
     start: usize,
-    lines: usize,
+    count: usize,
 ) -> i64
-    ensures { SignedKept (rows_in plane.old room tile (batch_of true start lines) scratch.now output.old)
+    ensures { SignedKept (rows_in plane.old room tile (batch_of true start count) scratch.now output.old)
         result plane.new output.new }
 {
-    tiles::rows(*plane, room, tile, scratch, output, start, lines).store(plane)
+    tiles::rows(*plane, room, tile, scratch, output, start, count).store(plane)
 }

@@ -5,7 +5,7 @@ ghost use Rattle.choice.specs.Choice.{choice_answer};
 ghost use Rattle.quant.specs.Place.{one_answer};
 ghost use Rattle.quant.specs.Scan.{scan_answer, levels_after, magnitudes_after};
 ghost use Rattle.quant.specs.Step.{step_of};
-ghost use Rattle.mizdrek.specs.Levels.{card, signed_one, level_given, magnitude_given};
+ghost use Rattle.mizdrek.specs.Levels.{settings_of, signed_one, level_given, magnitude_given};
 
 use answer::Outcome;
 use quant::{Place, Settings};
@@ -28,9 +28,9 @@ pub extern "C" fn mizdrek_quantize_one(
     level: &mut f32,
     magnitude: &mut f32,
 ) -> i64
-    ensures value { result ≡ signed_one (one_answer (card factor threshold dead_zone) step coefficient) }
-    ensures level_after { level.new ≡ level_given (one_answer (card factor threshold dead_zone) step coefficient) level.old }
-    ensures magnitude_after { magnitude.new ≡ magnitude_given (one_answer (card factor threshold dead_zone) step coefficient) magnitude.old }
+    ensures value { result ≡ signed_one (one_answer (settings_of factor threshold dead_zone) step coefficient) }
+    ensures level_after { level.new ≡ level_given (one_answer (settings_of factor threshold dead_zone) step coefficient) level.old }
+    ensures magnitude_after { magnitude.new ≡ magnitude_given (one_answer (settings_of factor threshold dead_zone) step coefficient) magnitude.old }
 {
     let settings = Settings {
         factor,
@@ -65,9 +65,9 @@ pub extern "C" fn mizdrek_quantize_to_levels(
     levels: &mut [f32],
     magnitudes: &mut [f32],
 ) -> i64
-    ensures value { result ≡ signed_of (scan_answer width step (card factor threshold dead_zone) coefficients.now scan.now (length levels.old) (length magnitudes.old)) }
-    ensures levels_after { levels.new ≡ levels_after width step (card factor threshold dead_zone) coefficients.now scan.now levels.old magnitudes.old }
-    ensures magnitudes_after { magnitudes.new ≡ magnitudes_after width step (card factor threshold dead_zone) coefficients.now scan.now levels.old magnitudes.old }
+    ensures value { result ≡ signed_of (scan_answer width step (settings_of factor threshold dead_zone) coefficients.now scan.now (length levels.old) (length magnitudes.old)) }
+    ensures levels_after { levels.new ≡ levels_after width step (settings_of factor threshold dead_zone) coefficients.now scan.now levels.old magnitudes.old }
+    ensures magnitudes_after { magnitudes.new ≡ magnitudes_after width step (settings_of factor threshold dead_zone) coefficients.now scan.now levels.old magnitudes.old }
 {
     let settings = Settings {
         factor,

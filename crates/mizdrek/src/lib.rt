@@ -11,8 +11,8 @@ mod ticket;
 ghost use Rattle.std.specs.Prelude.{◌≡◌, length};
 ghost use Rattle.answer.specs.Answer.{signed_of};
 ghost use Rattle.sizes.specs.Size.{dc_tx_scale};
-ghost use Rattle.passes.specs.Answer.{pass_answer, pass_after};
-ghost use Rattle.block.specs.Answer.{block_answer, scratch_after, output_after};
+ghost use Rattle.passes.specs.Call.{pass_answer, pass_after};
+ghost use Rattle.block.specs.Call.{block_answer, scratch_after, output_after};
 ghost use Rattle.wht.specs.Wht.{wht_answer, wht_after};
 
 #[unsafe(no_mangle)]

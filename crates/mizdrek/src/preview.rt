@@ -20,11 +20,11 @@ pub extern "C" fn mizdrek_preview_columns(
     scratch: &[i32],
     preview: &mut [i32],
     start: usize,
-    lines: usize,
+    count: usize,
 ) -> i64
-    ensures { SignedPreview (preview_of ticket.now (batch_of false start lines) residuals.now scratch.now preview.old) result preview.new }
+    ensures { SignedPreview (preview_of ticket.now (batch_of false start count) residuals.now scratch.now preview.old) result preview.new }
 {
-    let b = Batch::columns(start, lines);
+    let b = Batch::columns(start, count);
     shown(*ticket, b, residuals, scratch, preview)
 }
 
@@ -35,10 +35,10 @@ pub extern "C" fn mizdrek_preview_rows(
     output: &[i32],
     preview: &mut [i32],
     start: usize,
-    lines: usize,
+    count: usize,
 ) -> i64
-    ensures { SignedPreview (preview_of ticket.now (batch_of true start lines) scratch.now output.now preview.old) result preview.new }
+    ensures { SignedPreview (preview_of ticket.now (batch_of true start count) scratch.now output.now preview.old) result preview.new }
 {
-    let b = Batch::rows(start, lines);
+    let b = Batch::rows(start, count);
     shown(*ticket, b, scratch, output, preview)
 }

@@ -41,12 +41,12 @@ pub extern "C" fn mizdrek_column_batch(
     residuals: &[i32],
     scratch: &mut [i32],
     start: usize,
-    lines: usize,
+    count: usize,
 ) -> i64
-    ensures { SignedBatch (batch ticket.old (batch_of false start lines) residuals.now scratch.old)
+    ensures { SignedBatch (batch ticket.old (batch_of false start count) residuals.now scratch.old)
         result ticket.new scratch.new }
 {
-    run(ticket, Batch::columns(start, lines), residuals, scratch)
+    run(ticket, Batch::columns(start, count), residuals, scratch)
 }
 
 #[unsafe(no_mangle)]
@@ -55,10 +55,10 @@ pub extern "C" fn mizdrek_row_batch(
     scratch: &[i32],
     output: &mut [i32],
     start: usize,
-    lines: usize,
+    count: usize,
 ) -> i64
-    ensures { SignedBatch (batch ticket.old (batch_of true start lines) scratch.now output.old)
+    ensures { SignedBatch (batch ticket.old (batch_of true start count) scratch.now output.old)
         result ticket.new output.new }
 {
-    run(ticket, Batch::rows(start, lines), scratch, output)
+    run(ticket, Batch::rows(start, count), scratch, output)
 }

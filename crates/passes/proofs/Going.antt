@@ -15,18 +15,19 @@ use Rattle.kernels.specs.Dct.{dct, dct32}
 use Rattle.kernels.proofs.Mirror.{Mirrors, mirror}
 use Rattle.laws.specs.Store.{stores}
 use Rattle.lines.specs.Line.{place, rounded, Halving, Halved}
-use Rattle.lines.specs.Stage.{IsKernel, Staging, Completes}
+use Rattle.lines.specs.Stage.{Staging, Completes}
+use Rattle.lines.specs.Table.{IsDct}
 use Rattle.lines.proofs.Chain.{halving_asked, rest_asked, completed, last_completed}
 use Rattle.passes.specs.Power.{Power}
 
 -- the 1,024 numbers serve every side: row 32f/n begins at place f × (1024 / n)
-table_at : (n fs : ℕ) → ((f : ℕ) → f * fs ≡ 32 * f / n * 32) → ((f k : ℕ) → f < n → k < n → f * fs + k < 1024) → IsKernel n fs dct32
+table_at : (n fs : ℕ) → ((f : ℕ) → f * fs ≡ 32 * f / n * 32) → ((f k : ℕ) → f < n → k < n → f * fs + k < 1024) → IsDct n fs dct32
 unfolding dct dct32
 table_at n fs e b = record { entry = λ f k hf hk. ap (λ (i : ℕ). get_or dct32 (i + k) (pos 0)) (e f); inside = b }
 
-pub whole_table : (n : ℕ) → is_side n ≡ true → IsKernel n (1024 / n) dct32
+pub whole_table : (n : ℕ) → is_side n ≡ true → IsDct n (1024 / n) dct32
 whole_table =
-    each_side (λ n. IsKernel n (1024 / n) dct32)
+    each_side (λ n. IsDct n (1024 / n) dct32)
     (table_at 4 256 (λ f. omega arith) (λ f k a b. omega arith))
     (table_at 8 128 (λ f. omega arith) (λ f k a b. omega arith))
     (table_at 16 64 (λ f. omega arith) (λ f k a b. omega arith))

@@ -1,4 +1,4 @@
--- What the tests of a pass give back.
+-- What the tests of a pass give back. No public contract mentions it.
 use Rattle.std.specs.Prelude.{◌*◌, Result, Ok, Err}
 use Rattle.answer.specs.declared.Refusal.{Refusal}
 use Rattle.answer.specs.Answer.{Answer, answers, refuses, number_of}

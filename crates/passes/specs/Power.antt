@@ -1,4 +1,4 @@
--- The lengths of a line as it is folded.
+-- The lengths of a line as it is folded. No public contract mentions them.
 use Rattle.std.specs.Prelude.{◌≡◌, ℕ, ◌^◌, ◌≤◌, suc}
 
 -- m is 2 to a power from 1 to 5

@@ -10,8 +10,8 @@ ghost use Rattle.sizes.specs.Size.{is_side};
 ghost use Rattle.kernels.specs.Kernel.{has_kernel};
 ghost use Rattle.kernels.specs.Kind.{kind_number};
 ghost use Rattle.lines.specs.Pass.{pass_lines};
-ghost use Rattle.lines.specs.Room.{Room};
-ghost use Rattle.passes.specs.Answer.{is_shift, pass_answer, pass_after};
+ghost use Rattle.lines.specs.Room.{PassRoom};
+ghost use Rattle.passes.specs.Call.{is_shift, pass_answer, pass_after};
 ghost use Rattle.passes.specs.Admitted.{admitted};
 
 use answer::{Outcome, Refusal};
@@ -22,7 +22,7 @@ use sizes::Size;
 use stages::Plain;
 
 // The shift of this number, which is to be from 1 to 15.
-#[tactic(auto, unfolding(crate::specs::Answer::is_shift))]
+#[tactic(auto, unfolding(crate::specs::Call::is_shift))]
 #[inline(always)]
 fn shift_of(shift: i32) -> Result<Shift, Refusal>
     ensures { MatchResult result (λ s. (pos s.bits ≡ shift) × (is_shift shift ≡ true)) (λ why. (why ≡ BadSize) × (is_shift shift ≡ false)) }
@@ -43,19 +43,19 @@ pub struct ValidPass {
 
 // A pass by its arguments alone, or why it is refused: src and dst are the lengths of those buffers. Kinds are numbers in public calls, which refuse any
 // other by 2.
-#[tactic(auto, unfolding(crate::specs::Answer::pass_answer, answer::specs::Answer::lowest))]
+#[tactic(auto, unfolding(crate::specs::Call::pass_answer, answer::specs::Answer::lowest))]
 pub fn admit(
     side: usize,
     kind: u32,
     shift: i32,
-    line: usize,
+    lines: usize,
     src: usize,
     dst: usize,
 ) -> Result<ValidPass, Refusal>
-    ensures answer { admitted result ≡ pass_answer side kind shift line src dst }
-    ensures as_asked { IfOk result (λ p. (p.size.w ≡ side) × (p.size.h ≡ line) × (kind_number p.kind ≡ kind) × (pos p.shift.bits ≡ shift)) }
+    ensures answer { admitted result ≡ pass_answer side kind shift lines src dst }
+    ensures as_asked { IfOk result (λ p. (p.size.w ≡ side) × (p.size.h ≡ lines) × (kind_number p.kind ≡ kind) × (pos p.shift.bits ≡ shift)) }
 {
-    let size = Size::new(side, line)?;
+    let size = Size::new(side, lines)?;
     let shift = shift_of(shift)?;
     let kind = Kind::new(kind, side)?;
     if (src < size.places()) | (dst < size.places()) {
@@ -64,59 +64,59 @@ pub fn admit(
     Ok(ValidPass { size, kind, shift })
 }
 
-// One pass: line lines of side numbers each, input src[k × line + j], output dst[j × side + f].
+// One pass: this many lines of side numbers each, input src[k × lines + j], output dst[j × side + f].
 pub fn pass(
     side: usize,
     kind: u32,
     shift: i32,
-    line: usize,
+    lines: usize,
     src: &[i32],
     dst: &mut [i32],
 ) -> Outcome
-    ensures result_value { told result ≡ pass_answer side kind shift line (length src.now) (length dst.old) }
-    ensures dst_after { dst.new ≡ pass_after side kind shift line src.now dst.old }
+    ensures result_value { told result ≡ pass_answer side kind shift lines (length src.now) (length dst.old) }
+    ensures dst_after { dst.new ≡ pass_after side kind shift lines src.now dst.old }
 {
-    let pass = admit(side, kind, shift, line, src.len(), dst.len())?;
+    let pass = admit(side, kind, shift, lines, src.len(), dst.len())?;
     let source = Source {
         numbers: src,
-        lines: line,
+        lines,
         shift: pass.shift,
     };
     let size = pass.size.places();
-    lanes::run(side, pass.kind, &source, 0, line, dst);
+    lanes::run(side, pass.kind, &source, 0, lines, dst);
     Ok(size)
 }
 
 // Every line of a pass, with one DCT for every side. An ADST has no plainer form than its dense sums.
-fn run_plain(side: usize, kind: Kind, source: &Source<'_>, line: usize, dst: &mut [i32])
-    requires { (is_side side ≡ true) × (has_kernel (kind_number kind) side ≡ true) × Room side source.now.lines 0 line (length source.now.numbers.now) (length dst.old) }
-    ensures { dst.new ≡ pass_lines (kind_number kind) side source.now.shift.bits source.now.lines source.now.numbers.now 0 line dst.old }
+fn run_plain(side: usize, kind: Kind, source: &Source<'_>, lines: usize, dst: &mut [i32])
+    requires { (is_side side ≡ true) × (has_kernel (kind_number kind) side ≡ true) × PassRoom side source.now.lines 0 lines (length source.now.numbers.now) (length dst.old) }
+    ensures { dst.new ≡ pass_lines (kind_number kind) side source.now.shift.bits source.now.lines source.now.numbers.now 0 lines dst.old }
 {
     match kind {
-        Kind::Dct => each_line(&Plain { n: side }, source, 0, line, dst),
-        Kind::Adst => lanes::run(side, kind, source, 0, line, dst),
+        Kind::Dct => each_line(&Plain { n: side }, source, 0, lines, dst),
+        Kind::Adst => lanes::run(side, kind, source, 0, lines, dst),
     }
 }
 
-// The same, with one DCT for every side. A function of both that takes the run as a closure would have to say of it what the contract of `run_plain`
+// A pass as `pass` makes it, with one DCT for every side. A function of both that takes the run as a closure would have to say of it what the contract of `run_plain`
 // says, and would be no plainer.
 pub fn plain(
     side: usize,
     kind: u32,
     shift: i32,
-    line: usize,
+    lines: usize,
     src: &[i32],
     dst: &mut [i32],
 ) -> Outcome
-    ensures result_value { told result ≡ pass_answer side kind shift line (length src.now) (length dst.old) }
-    ensures dst_after { dst.new ≡ pass_after side kind shift line src.now dst.old }
+    ensures result_value { told result ≡ pass_answer side kind shift lines (length src.now) (length dst.old) }
+    ensures dst_after { dst.new ≡ pass_after side kind shift lines src.now dst.old }
 {
-    let pass = admit(side, kind, shift, line, src.len(), dst.len())?;
+    let pass = admit(side, kind, shift, lines, src.len(), dst.len())?;
     let source = Source {
         numbers: src,
-        lines: line,
+        lines,
         shift: pass.shift,
     };
-    run_plain(side, pass.kind, &source, line, dst);
+    run_plain(side, pass.kind, &source, lines, dst);
     Ok(pass.size.places())
 }

@@ -11,7 +11,7 @@ use lib.IntN.{ℤ}
 use lib.ListN.{length}
 use Rattle.laws.proofs.Bool.{both, decided}
 use Rattle.answer.specs.Answer.{Answer, answers, lowest}
-use Rattle.block.specs.Answer.{refusals}
+use Rattle.block.specs.Call.{refusals}
 use Rattle.tickets.specs.declared.Batch.{Batch}
 use Rattle.tickets.specs.Open.{new_ticket}
 use Rattle.tickets.specs.Open as block
@@ -21,7 +21,7 @@ use Rattle.tickets.proofs.Condition3.{condition3}
 use Rattle.tickets.proofs.Runs.{onto, run_none, run_on}
 use Rattle.plane.specs.Places.{tile_of}
 use Rattle.plane.specs.Plane.{tile_at, is_open, area_of, new_tile, with_tile, made, plane_after, first_free, open_answer, opening}
-use Rattle.plane.specs.Calls.{Call, opens, closes, batches, World, world_at, turn, world_after}
+use Rattle.plane.specs.Calls.{Call, opens, closes, batches, Frame, frame_at, turn, frame_after}
 use Rattle.plane.specs.Condition3.{names, tile_batches, closes_it, stays_open, tile_state, add_turn, tile_run, TileCondition3}
 use Rattle.plane.specs.declared.Plane.{Plane}
 use Rattle.plane.specs.declared.Site.{Site}
@@ -36,9 +36,9 @@ use Rattle.plane.proofs.Own.{own_mine, own_turn}
 -- ---- through a list of calls
 
 module _ (room n : ℕ) (residuals : List ℤ) where
-  -- what holds of every world in which the tile is open, of a list
+  -- what holds of every frame in which the tile is open, of a list
   abbrev Through : List Call → Type 0
-  Through cs = (s : World) (scratch : List ℤ) → Mine s room n
+  Through cs = (s : Frame) (scratch : List ℤ) → Mine s room n
       → tile_run room n residuals scratch s cs ≡ run residuals (tile_state s scratch n) (tile_batches room n cs)
 
   -- another call first
@@ -47,19 +47,19 @@ module _ (room n : ℕ) (residuals : List ℤ) where
   other_first c cs ih e f s scratch m =
       let k = others m c e f in
       rw e
-      (ih (turn s c).world scratch (same_mine m (fine_turn s c m.fine) k)
-      ∙ ap (λ (x : State). run residuals x (tile_batches room n cs)) (same_state s (turn s c).world scratch n k))
+      (ih (turn s c).frame scratch (same_mine m (fine_turn s c m.fine) k)
+      ∙ ap (λ (x : State). run residuals x (tile_batches room n cs)) (same_state s (turn s c).frame scratch n k))
 
   -- a batch of the tile first
-  own_first : (b : Batch) (cs : List Call) → Through cs → (s : World) (scratch : List ℤ) → Mine s room n →
+  own_first : (b : Batch) (cs : List Call) → Through cs → (s : Frame) (scratch : List ℤ) → Mine s room n →
       let own = turn s (batches room n b residuals scratch) in
-      add_turn own n (tile_run room n residuals own.scratch own.world cs) ≡ run residuals (tile_state s scratch n) (b ∷ tile_batches room n cs)
+      add_turn own n (tile_run room n residuals own.scratch own.frame cs) ≡ run residuals (tile_state s scratch n) (b ∷ tile_batches room n cs)
   own_first b cs ih s scratch m =
       let k = own_turn m b residuals scratch in
       let c = batches room n b residuals scratch in
       let u = turn s c in
       let bs = tile_batches room n cs in
-      ap (add_turn u n) (ih u.world u.scratch (own_mine m (fine_turn s c m.fine) k.stays))
+      ap (add_turn u n) (ih u.frame u.scratch (own_mine m (fine_turn s c m.fine) k.stays))
       ∙ ap₂ (λ (a : Answer) (x : State). onto (record { answer = a; state = x }) (run residuals x bs)) k.answer k.state
       ∙ sym (run_on residuals (tile_state s scratch n) b bs)
 
@@ -91,7 +91,7 @@ unfolding block.open_answer refusals lowest
 block_opens site lt k l =
     rw (k.wide, k.high, k.kinds, k.residuals_long, k.scratch_long, le-ltb lt (site.w * site.h) l, k.in_limit_lem)
 
-module _ {width height : ℕ} (s : World) (g : Good width height s.plane) (site : Site) (n : ℕ) (residuals scratch : List ℤ)
+module _ {width height : ℕ} (s : Frame) (g : Good width height s.plane) (site : Site) (n : ℕ) (residuals scratch : List ℤ)
     (accepted : open_answer s.plane (new_tile site) residuals (length scratch) (length s.output) ≡ answers n) where
   abbrev p : Plane
   p = s.plane
@@ -99,8 +99,8 @@ module _ {width height : ℕ} (s : World) (g : Good width height s.plane) (site 
   abbrev t : Tile
   t = new_tile site
 
-  abbrev new : World
-  new = world_at (with_tile p (first_free p) t) s.output
+  abbrev new : Frame
+  new = frame_at (with_tile p (first_free p) t) s.output
 
   abbrev tile : List ℤ
   tile = tile_of width (area_of t) s.output
@@ -128,10 +128,10 @@ module _ {width height : ℕ} (s : World) (g : Good width height s.plane) (site 
 
   from_open : (cs : List Call) → stays_open site.room n cs ≡ true
       → tile_run site.room n residuals scratch
-      (world_at (plane_after (open_answer p t residuals (length scratch) (length s.output)) (with_tile p (first_free p) t) p) s.output) cs
+      (frame_at (plane_after (open_answer p t residuals (length scratch) (length s.output)) (with_tile p (first_free p) t) p) s.output) cs
       ≡ settled site.w site.h site.column_kind site.row_kind residuals scratch tile (tile_batches site.room n cs)
   from_open cs e =
-      ap (λ (a : Answer). tile_run site.room n residuals scratch (world_at (plane_after a (with_tile p (first_free p) t) p) s.output) cs) accepted
+      ap (λ (a : Answer). tile_run site.room n residuals scratch (frame_at (plane_after a (with_tile p (first_free p) t) p) s.output) cs) accepted
       ∙ through site.room n residuals cs e new scratch (subst (Mine new site.room) (sym known.number) mine)
       ∙ ap (λ (x : State). run residuals x (tile_batches site.room n cs)) (ap (tile_state new scratch) known.number ∙ state_is)
       ∙ condition3 site.w site.h site.column_kind site.row_kind residuals scratch tile
@@ -140,5 +140,5 @@ module _ {width height : ℕ} (s : World) (g : Good width height s.plane) (site 
 pub tile_condition3 : TileCondition3
 unfolding turn opening
 tile_condition3 width height output sides before site residuals scratch n accepted cs stays =
-    let first = world_at (made width height) output in
-    from_open (world_after first before) (good_all before first (made_good width height sides)) site n residuals scratch accepted cs stays
+    let first = frame_at (made width height) output in
+    from_open (frame_after first before) (good_all before first (made_good width height sides)) site n residuals scratch accepted cs stays

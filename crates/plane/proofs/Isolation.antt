@@ -13,7 +13,7 @@ use Rattle.tickets.specs.Batch.{answer_unless}
 use Rattle.tickets.specs.declared.Batch.{Batch}
 use Rattle.plane.specs.Plane.{no_tile, tile_at, area_of, new_tile, with_tile, plane_ok, plane_after, made, first_free, open_answer, tile_answer, opening, closing}
 use Rattle.plane.specs.Batch.{with_marks, marks, unless, columns_in, rows_in}
-use Rattle.plane.specs.Calls.{Call, opens, closes, batches, world_at, Turn, plan_turn, column_turn, row_turn, turn}
+use Rattle.plane.specs.Calls.{Call, opens, closes, batches, frame_at, Turn, plan_turn, column_turn, row_turn, turn}
 use Rattle.plane.specs.Isolation.{Lent, next, room_of, Deed, own, opened, closed, deed_of, deeds_for, Shown, shown, shown_to, Isolation}
 use Rattle.plane.specs.declared.Plane.{Plane}
 use Rattle.plane.specs.declared.Site.{Site}
@@ -29,7 +29,7 @@ use Rattle.plane.proofs.Alike.{Like, like_refl, put_like, marked_like, free_same
 -- what the room has of it, and what is left
 record Told (r : ℕ) (s t : Turn) : Type 0 where
   answer : s.answer ≡ t.answer
-  like : Like r s.world.plane t.world.plane
+  like : Like r s.frame.plane t.frame.plane
 
 module _ {r : ℕ} {p q : Plane} (f : Fine p) (g : Fine q) (k : Like r p q) where
   -- an accepted call that puts a tile in both
@@ -39,8 +39,8 @@ module _ {r : ℕ} {p q : Plane} (f : Fine p) (g : Fine q) (k : Like r p q) wher
   after_like n t (refuses j) small = k
 
   told_open : (t : Tile) (residuals scratch : List ℤ) (o o' : List ℤ) → length o ≡ length o'
-      → Told r (plan_turn (world_at p o) scratch (opening p t residuals (length scratch) (length o)))
-      (plan_turn (world_at q o') scratch (opening q t residuals (length scratch) (length o')))
+      → Told r (plan_turn (frame_at p o) scratch (opening p t residuals (length scratch) (length o)))
+      (plan_turn (frame_at q o') scratch (opening q t residuals (length scratch) (length o')))
   unfolding opening
   told_open t residuals scratch o o' e =
       let a = open_answer p t residuals (length scratch) (length o) in
@@ -52,7 +52,7 @@ module _ {r : ℕ} {p q : Plane} (f : Fine p) (g : Fine q) (k : Like r p q) wher
             (after_like (first_free p) t a (λ m u. (open_known p t residuals (length scratch) (length o) m (sym u)).small));
       }
 
-  told_close : (room n : ℕ) (o o' : List ℤ) → Told r (plan_turn (world_at p o) [] (closing p room n)) (plan_turn (world_at q o') [] (closing q room n))
+  told_close : (room n : ℕ) (o o' : List ℤ) → Told r (plan_turn (frame_at p o) [] (closing p room n)) (plan_turn (frame_at q o') [] (closing q room n))
   unfolding closing
   told_close room n o o' =
       let same = tile_same f g k room n in
@@ -83,7 +83,7 @@ module _ {r : ℕ} {p q : Plane} (f : Fine p) (g : Fine q) (k : Like r p q) wher
           (same i, rw (sym (same i)) (told_marks n b x (tile_known p room n m (sym u)).small i))
 
   told_columns : (room n : ℕ) (b : Batch) (residuals scratch o o' : List ℤ) → eqb room r ≡ true
-      → Told r (column_turn (world_at p o) (columns_in p room n b residuals scratch)) (column_turn (world_at q o') (columns_in q room n b residuals scratch))
+      → Told r (column_turn (frame_at p o) (columns_in p room n b residuals scratch)) (column_turn (frame_at q o') (columns_in q room n b residuals scratch))
   unfolding columns_in
   told_columns room n b residuals scratch o o' e =
       let t =
@@ -105,15 +105,15 @@ module _ {r : ℕ} {p q : Plane} (f : Fine p) (g : Fine q) (k : Like r p q) wher
       ∙ ap (answer_unless (ltb (length o') (q.w * q.h)) (tile_at q n).ticket b (length scratch)) (sym (length_tile q.w (area_of (tile_at q n)) o'))) in
       record { answer = t.0; like = t.1 }
 
-  told : (c : Call) (o o' : List ℤ) → length o ≡ length o' → eqb (room_of c) r ≡ true → Told r (turn (world_at p o) c) (turn (world_at q o') c)
+  told : (c : Call) (o o' : List ℤ) → length o ≡ length o' → eqb (room_of c) r ≡ true → Told r (turn (frame_at p o) c) (turn (frame_at q o') c)
   unfolding turn
   told (opens site residuals scratch) o o' l e = told_open (new_tile site) residuals scratch o o' l
   told (closes room n) o o' l e = told_close room n o o'
   told (batches room n b residuals scratch) o o' l e = go b.row
     where
       go : (row : Bool) → Told r
-          (cond row (row_turn scratch (rows_in p room n b scratch o)) (column_turn (world_at p o) (columns_in p room n b residuals scratch)))
-          (cond row (row_turn scratch (rows_in q room n b scratch o')) (column_turn (world_at q o') (columns_in q room n b residuals scratch)))
+          (cond row (row_turn scratch (rows_in p room n b scratch o)) (column_turn (frame_at p o) (columns_in p room n b residuals scratch)))
+          (cond row (row_turn scratch (rows_in q room n b scratch o')) (column_turn (frame_at q o') (columns_in q room n b residuals scratch)))
       go true = told_rows room n b scratch o o' l e
       go false = told_columns room n b residuals scratch o o' e
 
@@ -130,12 +130,12 @@ module _ {r : ℕ} {p q : Plane} (f : Fine p) (g : Fine q) (k : Like r p q) wher
       let v = tile_known p room n m (sym u) in after_marks n b x v.small (ap (λ (i : ℕ). eqb i r) v.room_is ∙ e)
 
   unseen : (room n : ℕ) (b : Batch) (residuals scratch o : List ℤ) → eqb room r ≡ false
-      → Like r (turn (world_at p o) (batches room n b residuals scratch)).world.plane q
+      → Like r (turn (frame_at p o) (batches room n b residuals scratch)).frame.plane q
   unfolding turn columns_in rows_in
   unseen room n b residuals scratch o e = go b.row
     where
       go : (row : Bool) → Like r
-          (cond row (row_turn scratch (rows_in p room n b scratch o)) (column_turn (world_at p o) (columns_in p room n b residuals scratch))).world.plane q
+          (cond row (row_turn scratch (rows_in p room n b scratch o)) (column_turn (frame_at p o) (columns_in p room n b residuals scratch))).frame.plane q
       go true = after_batch room n b _ _ o e (tile_answer p room n) refl
       go false = after_batch room n b _ _ scratch e (tile_answer p room n) refl
 
@@ -144,7 +144,7 @@ module _ {r : ℕ} {p q : Plane} (f : Fine p) (g : Fine q) (k : Like r p q) wher
 -- what a room is shown of its deeds, on a record that has no other's marks; an output of zeros stands for the lent one
 unfoldable replay : ℕ → Plane → List Deed → List Shown
 replay r q [] = []
-replay r q (own c n ∷ ds) = let t = turn (world_at q (replicate n (pos 0))) c in shown r t ∷ replay r t.world.plane ds
+replay r q (own c n ∷ ds) = let t = turn (frame_at q (replicate n (pos 0))) c in shown r t ∷ replay r t.frame.plane ds
 replay r q (opened site ∷ ds) = replay r (with_tile q (first_free q) (new_tile site)) ds
 replay r q (closed n ∷ ds) = replay r (with_tile q n no_tile) ds
 
@@ -154,16 +154,16 @@ module _ (r : ℕ) where
 
   -- a call of the room first
   own_first : (l : Lent) (ls : List Lent) → Replayed ls → (p q : Plane) → Fine p → Fine q → Like r p q → eqb (room_of l.call) r ≡ true
-      → shown r (next p l) ∷ shown_to r (next p l).world.plane ls
-      ≡ replay r q (own l.call (length l.output) ∷ deeds_for r (next p l).world.plane ls)
+      → shown r (next p l) ∷ shown_to r (next p l).frame.plane ls
+      ≡ replay r q (own l.call (length l.output) ∷ deeds_for r (next p l).frame.plane ls)
   unfolding replay
   own_first l ls ih p q f g k e =
       let blank = replicate (length l.output) (pos 0) in
       let t = told f g k l.call l.output blank (sym (length-replicate (length l.output) (pos 0))) e in
       ap₂ (λ (x : Shown) (xs : List Shown). x ∷ xs)
       (ap₂ (λ (a : Answer) (ts : List Tile). record { answer = a; tiles = ts }) t.answer (shown_same t.like))
-      (ih (next p l).world.plane (turn (world_at q blank) l.call).world.plane (fine_turn (world_at p l.output) l.call f)
-      (fine_turn (world_at q blank) l.call g) t.like)
+      (ih (next p l).frame.plane (turn (frame_at q blank) l.call).frame.plane (fine_turn (frame_at p l.output) l.call f)
+      (fine_turn (frame_at q blank) l.call g) t.like)
 
   -- a call of the other room first
   opened_first : (site : Site) (residuals scratch o : List ℤ) (ls : List Lent) → Replayed ls → (p q : Plane) → Fine p → Fine q → Like r p q
@@ -192,12 +192,12 @@ module _ (r : ℕ) where
       ih (with_tile p n no_tile) (with_tile q n no_tile) (close_fine n f small) (close_fine n g small) (put_like f g k n no_tile small)
 
   other_first : (c : Call) (o : List ℤ) (ls : List Lent) → Replayed ls → (p q : Plane) → Fine p → Fine q → Like r p q → eqb (room_of c) r ≡ false →
-      let t = turn (world_at p o) c in shown_to r t.world.plane ls ≡ replay r q (deed_of c t.answer ++ deeds_for r t.world.plane ls)
+      let t = turn (frame_at p o) c in shown_to r t.frame.plane ls ≡ replay r q (deed_of c t.answer ++ deeds_for r t.frame.plane ls)
   unfolding turn opening closing
   other_first (opens site residuals scratch) o ls ih p q f g k e = opened_first site residuals scratch o ls ih p q f g k _ refl
   other_first (closes room n) o ls ih p q f g k e = closed_first room n ls ih p q f g k _ refl
   other_first (batches room n b residuals scratch) o ls ih p q f g k e =
-      ih (turn (world_at p o) (batches room n b residuals scratch)).world.plane q (fine_turn (world_at p o) (batches room n b residuals scratch) f) g
+      ih (turn (frame_at p o) (batches room n b residuals scratch)).frame.plane q (fine_turn (frame_at p o) (batches room n b residuals scratch) f) g
       (unseen f g k room n b residuals scratch o e)
 
   replayed : (ls : List Lent) → Replayed ls

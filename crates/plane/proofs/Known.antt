@@ -12,7 +12,7 @@ use Rattle.answer.specs.Answer.{answers}
 use Rattle.answer.proofs.Answer.{passed, the_answer}
 use Rattle.sizes.specs.Size.{is_side}
 use Rattle.residual.specs.Residual.{residuals_ok}
-use Rattle.block.specs.Answer.{has_kinds}
+use Rattle.block.specs.Call.{has_kinds}
 use Rattle.plane.specs.Plane.{tile_at, is_open, with_tile, plane_ok, first_free, has_place, open_answer, open_for, tile_answer}
 use Rattle.plane.specs.declared.Plane.{Plane}
 use Rattle.plane.specs.declared.Tile.{Tile}

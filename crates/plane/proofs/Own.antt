@@ -22,7 +22,7 @@ use Rattle.previews.proofs.Shown.{ends_in, lines_laid}
 use Rattle.plane.specs.Places.{Area, tile_of, put_tile}
 use Rattle.plane.specs.Plane.{tile_at, is_open, area_of, with_ticket}
 use Rattle.plane.specs.Batch.{Kept, with_marks, marks, unless, columns_in, rows_in}
-use Rattle.plane.specs.Calls.{batches, World, Turn, column_turn, row_turn, turn}
+use Rattle.plane.specs.Calls.{batches, Frame, Turn, column_turn, row_turn, turn}
 use Rattle.plane.specs.Condition3.{tile_state}
 use Rattle.plane.specs.declared.Plane.{Plane}
 use Rattle.plane.specs.declared.Tile.{Tile}
@@ -36,17 +36,17 @@ lines_long : (t : Ticket) (b : Batch) (source target : List ℤ) (m : ℕ) → a
 lines_long t b source target m e =
     let k = (taken false t b (length source) (length target) m e).0 in
     let n = line_length t.w t.h b.row in
-    ap length (lines_laid t b.row b.start b.lines source target)
-    ∙ length_laid target (b.start * n) (b.lines * n) _ (omega (arith, ends_in t b.row b.start b.lines k.ends, k.target_long))
+    ap length (lines_laid t b.row b.start b.count source target)
+    ∙ length_laid target (b.start * n) (b.count * n) _ (omega (arith, ends_in t b.row b.start b.count k.ends, k.target_long))
 
 -- what a batch of the tile leaves of the rest
-pub record Stays (s u : World) (n : ℕ) : Type 0 where
+pub record Stays (s u : Frame) (n : ℕ) : Type 0 where
   pub is_open_lem : is_open (tile_at u.plane n) ≡ is_open (tile_at s.plane n)
   pub room : (tile_at u.plane n).room ≡ (tile_at s.plane n).room
   pub size : u.plane.w * u.plane.h ≡ s.plane.w * s.plane.h
   pub long : length u.output ≡ length s.output
 
-pub own_mine : {s u : World} {room n : ℕ} → Mine s room n → Fine u.plane → Stays s u n → Mine u room n
+pub own_mine : {s u : Frame} {room n : ℕ} → Mine s room n → Fine u.plane → Stays s u n → Mine u room n
 own_mine m f k =
     record {
       fine = f;
@@ -57,12 +57,12 @@ own_mine m f k =
     }
 
 -- a turn is the ticket's step
-pub record Own (residuals scratch : List ℤ) (s : World) (n : ℕ) (b : Batch) (t : Turn) : Type 0 where
+pub record Own (residuals scratch : List ℤ) (s : Frame) (n : ℕ) (b : Batch) (t : Turn) : Type 0 where
   pub answer : t.answer ≡ (step residuals (tile_state s scratch n) b).answer
-  pub state : tile_state t.world t.scratch n ≡ (step residuals (tile_state s scratch n) b).state
-  pub stays : Stays s t.world n
+  pub state : tile_state t.frame t.scratch n ≡ (step residuals (tile_state s scratch n) b).state
+  pub stays : Stays s t.frame n
 
-module _ {s : World} {room n : ℕ} (m : Mine s room n) (b : Batch) (residuals scratch : List ℤ) where
+module _ {s : Frame} {room n : ℕ} (m : Mine s room n) (b : Batch) (residuals scratch : List ℤ) where
   abbrev p : Plane
   p = s.plane
 
@@ -94,7 +94,7 @@ module _ {s : World} {room n : ℕ} (m : Mine s room n) (b : Batch) (residuals s
   row_kept a = marks p n b a (put_tile p.w (area_of own) (lines_of t b scratch tile) s.output) s.output
 
   row_state : (a : Answer) → answer_unless false t b (length scratch) (length tile) ≡ a
-      → tile_state (row_turn scratch (row_kept a)).world scratch n ≡ state_at (ticket_after a (with_batch t b) t) scratch (after a (lines_of t b scratch tile) tile)
+      → tile_state (row_turn scratch (row_kept a)).frame scratch n ≡ state_at (ticket_after a (with_batch t b) t) scratch (after a (lines_of t b scratch tile) tile)
   row_state (refuses k) e = refl
   row_state (answers k) e =
       state_same (ap (λ (x : Tile). x.ticket) same_tile) refl
@@ -102,7 +102,7 @@ module _ {s : World} {room n : ℕ} (m : Mine s room n) (b : Batch) (residuals s
       ∙ tile_put (lines_of t b scratch tile) s.output (mine_lies m)
       (lines_long t b scratch tile k (sym e) ∙ length_tile p.w (area_of own) s.output))
 
-  row_stays : (a : Answer) → Stays s (row_turn scratch (row_kept a)).world n
+  row_stays : (a : Answer) → Stays s (row_turn scratch (row_kept a)).frame n
   row_stays (refuses k) = record { is_open_lem = refl; room = refl; size = refl; long = refl }
   row_stays (answers k) = stays_marked (length_put p.w (area_of own) (lines_of t b scratch tile) s.output)
 
@@ -129,12 +129,12 @@ module _ {s : World} {room n : ℕ} (m : Mine s room n) (b : Batch) (residuals s
   column_kept a = marks p n b a (lines_of t b residuals scratch) scratch
 
   column_state : (a : Answer)
-      → tile_state (column_turn s (column_kept a)).world (column_kept a).buffer n
+      → tile_state (column_turn s (column_kept a)).frame (column_kept a).buffer n
       ≡ state_at (ticket_after a (with_batch t b) t) (after a (lines_of t b residuals scratch) scratch) tile
   column_state (refuses k) = refl
   column_state (answers k) = state_same (ap (λ (x : Tile). x.ticket) same_tile) refl (ap (λ (x : Area). tile_of p.w x s.output) area_is)
 
-  column_stays : (a : Answer) → Stays s (column_turn s (column_kept a)).world n
+  column_stays : (a : Answer) → Stays s (column_turn s (column_kept a)).frame n
   column_stays (refuses k) = record { is_open_lem = refl; room = refl; size = refl; long = refl }
   column_stays (answers k) = stays_marked refl
 

@@ -13,8 +13,8 @@ use lib.ListN.{length, get_or}
 use lib.Seq.{ext_get_or}
 use Rattle.laws.proofs.Bool.{both, decided}
 use Rattle.laws.proofs.Laid.{length_tab, get_or_tab}
-use Rattle.tickets.specs.Mark.{within}
-use Rattle.tickets.proofs.Mark.{within_in, within_lt}
+use Rattle.tickets.specs.Mark.{is_among}
+use Rattle.tickets.proofs.Mark.{among_in, among_lt}
 use Rattle.plane.specs.Places.{Area, overlap, place_of, tile_of, is_in, put_tile}
 
 -- a tile that lies in a plane of this size
@@ -83,8 +83,8 @@ module _ {width height long : ℕ} {a : Area} (k : Lies width height a long) whe
       rw (
         place_row p,
         place_column p,
-        within_in a.x a.w (a.x + column p) (omega arith) (omega (arith, few_columns p)),
-        within_in a.y a.h (a.y + row p) (omega arith) (omega (arith, few_rows p l)),
+        among_in a.x a.w (a.x + column p) (omega arith) (omega (arith, few_columns p)),
+        among_in a.y a.h (a.y + row p) (omega arith) (omega (arith, few_rows p l)),
       )
 
 -- ---- what was put is read back
@@ -118,12 +118,12 @@ module _ {width height : ℕ} {a : Area} (tile plane : List ℤ) (k : Lies width
 pub meets : (width : ℕ) (a b : Area) (q : ℕ) → is_in width a q ≡ true → is_in width b q ≡ true → overlap a b ≡ true
 unfolding is_in overlap
 meets width a b q e f =
-    let i = both (within a.x a.w (q % width)) (within a.y a.h (q / width)) e in
-    let j = both (within b.x b.w (q % width)) (within b.y b.h (q / width)) f in
-    let ax = within_lt a.x a.w (q % width) i.0 in
-    let ay = within_lt a.y a.h (q / width) i.1 in
-    let bx = within_lt b.x b.w (q % width) j.0 in
-    let by = within_lt b.y b.h (q / width) j.1 in
+    let i = both (is_among a.x a.w (q % width)) (is_among a.y a.h (q / width)) e in
+    let j = both (is_among b.x b.w (q % width)) (is_among b.y b.h (q / width)) f in
+    let ax = among_lt a.x a.w (q % width) i.0 in
+    let ay = among_lt a.y a.h (q / width) i.1 in
+    let bx = among_lt b.x b.w (q % width) j.0 in
+    let by = among_lt b.y b.h (q / width) j.1 in
     rw (
       lt-ltb b.x (a.x + a.w) (omega arith),
       lt-ltb a.x (b.x + b.w) (omega arith),

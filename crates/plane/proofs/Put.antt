@@ -18,8 +18,8 @@ use Rattle.laws.proofs.Laid.{laid_before, laid_at, laid_after}
 use Rattle.laws.proofs.Pasted.{copied}
 use Rattle.laws.proofs.Place.{split, place_same}
 use Rattle.laws.proofs.Store.{stores_ext, length_grid, grid_in, grid_out}
-use Rattle.tickets.specs.Mark.{within}
-use Rattle.tickets.proofs.Mark.{within_lt}
+use Rattle.tickets.specs.Mark.{is_among}
+use Rattle.tickets.proofs.Mark.{among_lt}
 use Rattle.plane.specs.Places.{Area, place_of, tile_of, is_in, put_tile, plane_place, line_number}
 use Rattle.plane.proofs.Places.{Lies, length_tile, length_put, tile_at_lem, put_in, put_off, place_lt, place_in}
 
@@ -30,12 +30,12 @@ pub record InRow (w width x y i lb lo : ℕ) : Type 0 where
   pub target : (y + i) * width + x + w ≤ lo
   pub low : y + i ≤ lo
 
-pub in_row : (w lines width x y i lb lo : ℕ) → 1 ≤ w → lines * w ≤ lb → x + w ≤ width → (y + lines) * width ≤ lo → i < lines
+pub in_row : (w count width x y i lb lo : ℕ) → 1 ≤ w → count * w ≤ lb → x + w ≤ width → (y + count) * width ≤ lo → i < count
     → InRow w width x y i lb lo
-in_row w lines width x y i lb lo some a b c l =
-    let one : i * w + w ≤ lines * w = omega (arith, suc-mul i w, mul-le-mul_right {m = suc i} {n = lines} w l) in
-    let two : (y + i) * width + width ≤ (y + lines) * width =
-    omega (arith, suc-mul (y + i) width, mul-le-mul_right {m = suc (y + i)} {n = y + lines} width (omega arith)) in
+in_row w count width x y i lb lo some a b c l =
+    let one : i * w + w ≤ count * w = omega (arith, suc-mul i w, mul-le-mul_right {m = suc i} {n = count} w l) in
+    let two : (y + i) * width + width ≤ (y + count) * width =
+    omega (arith, suc-mul (y + i) width, mul-le-mul_right {m = suc (y + i)} {n = y + count} width (omega arith)) in
     record {
       source = omega arith;
       target = omega arith;
@@ -61,9 +61,9 @@ module _ {width height : ℕ} {a : Area} (tile plane : List ℤ) (k : Lies width
       → let p = (q / width - a.y) * a.w + (q % width - a.x) in (p < a.w * a.h) × (place_of width a p ≡ q)
   unfolding is_in
   in_place q e =
-      let h = both (within a.x a.w (q % width)) (within a.y a.h (q / width)) e in
-      let c = within_lt a.x a.w (q % width) h.0 in
-      let r = within_lt a.y a.h (q / width) h.1 in
+      let h = both (is_among a.x a.w (q % width)) (is_among a.y a.h (q / width)) e in
+      let c = among_lt a.x a.w (q % width) h.0 in
+      let r = among_lt a.y a.h (q / width) h.1 in
       let i = q / width - a.y in
       let j = q % width - a.x in
       let bj : j < a.w = omega arith in
@@ -95,7 +95,7 @@ module _ {width height : ℕ} {a : Area} (tile plane : List ℤ) (k : Lies width
 
 -- ---- lines of a tile
 
-module _ {width height : ℕ} {a : Area} (plane : List ℤ) (k : Lies width height a (length plane)) (start lines : ℕ) (end : start + lines ≤ a.h)
+module _ {width height : ℕ} {a : Area} (plane : List ℤ) (k : Lies width height a (length plane)) (start count : ℕ) (end : start + count ≤ a.h)
     (g : ℕ → ℕ → ℤ) where
   abbrev w : ℕ
   w = a.w
@@ -107,10 +107,10 @@ module _ {width height : ℕ} {a : Area} (plane : List ℤ) (k : Lies width heig
   tile = tile_of width a plane
 
   abbrev new : List ℤ
-  new = laid tile (start * w) (lines * w) (λ p. g (p / w) (p % w))
+  new = laid tile (start * w) (count * w) (λ p. g (p / w) (p % w))
 
   abbrev written : List ℤ
-  written = grid plane lines w place g
+  written = grid plane count w place g
 
   -- the place of number f of line j of them
   place_is : (j f : ℕ) → f < w → place j f ≡ place_of width a ((start + j) * w + f)
@@ -125,13 +125,13 @@ module _ {width height : ℕ} {a : Area} (plane : List ℤ) (k : Lies width heig
           sums u v t = omega arith
 
   -- it is one of the tile's numbers
-  number_lt : (j f : ℕ) → j < lines → f < w → (start + j) * w + f < w * a.h
+  number_lt : (j f : ℕ) → j < count → f < w → (start + j) * w + f < w * a.h
   number_lt j f bj bf = omega (arith, digits_lt {q = start + j} {m = a.h} (omega arith) bf, mul_comm w a.h)
 
-  in_lines : (j f : ℕ) → j < lines → f < w → (start * w ≤ (start + j) * w + f) × ((start + j) * w + f < start * w + lines * w)
+  in_lines : (j f : ℕ) → j < count → f < w → (start * w ≤ (start + j) * w + f) × ((start + j) * w + f < start * w + count * w)
   in_lines j f bj bf = (
     omega (arith, add-mul start j w),
-    omega (arith, add-mul start lines w, digits_lt {q = start + j} {m = start + lines} (omega arith) bf),
+    omega (arith, add-mul start count w, digits_lt {q = start + j} {m = start + count} (omega arith) bf),
   )
 
   across : (p : ℕ) → a.x + p % w < width
@@ -147,57 +147,57 @@ module _ {width height : ℕ} {a : Area} (plane : List ℤ) (k : Lies width heig
       same c e = omega arith
 
   -- a number that is on none of the lines
-  not_written : (p : ℕ) → (p < start * w) ⊎ (start * w + lines * w ≤ p) → get_or written (place_of width a p) (pos 0) ≡ get_or plane (place_of width a p) (pos 0)
+  not_written : (p : ℕ) → (p < start * w) ⊎ (start * w + count * w ≤ p) → get_or written (place_of width a p) (pos 0) ≡ get_or plane (place_of width a p) (pos 0)
   not_written p o =
-      grid_out plane lines w place g (place_of width a p) (pos 0)
+      grid_out plane count w place g (place_of width a p) (pos 0)
       (λ j f bj bf e.
       let h = place_one p ((start + j) * w + f) (e ∙ place_is j f bf) in
       let i = in_lines j f bj bf in
       ⊎_elim (λ u. omega arith) (λ u. omega arith) o)
 
-  is_written : (j f : ℕ) → j < lines → f < w → get_or written (place j f) (pos 0) ≡ g j f
+  is_written : (j f : ℕ) → j < count → f < w → get_or written (place j f) (pos 0) ≡ g j f
   is_written j f bj bf =
-      grid_in plane lines w place g j f (pos 0) bj bf
+      grid_in plane count w place g j f (pos 0) bj bf
       (omega (arith, place_is j f bf, place_lt k ((start + j) * w + f) (number_lt j f bj bf)))
       (λ i h bi bh e.
       let s = place_one ((start + j) * w + f) ((start + i) * w + h) (sym (place_is j f bf) ∙ e ∙ place_is i h bh) in
       let q = place_same {a = start + j} {b = f} {i = start + i} {h = h} bf bh s in
       (omega (arith, q.0), q.1))
 
-  room : start * w + lines * w ≤ length tile
-  room = omega (arith, length_tile width a plane, add-mul start lines w, mul-le-mul_right w end, mul_comm w a.h)
+  room : start * w + count * w ≤ length tile
+  room = omega (arith, length_tile width a plane, add-mul start count w, mul-le-mul_right w end, mul_comm w a.h)
 
   inside : (p : ℕ) → p < w * a.h → get_or written (place_of width a p) (pos 0) ≡ get_or new p (pos 0)
   inside p l =
       ⊎_elim
-      (λ u. not_written p (inl u) ∙ sym (laid_before tile (start * w) (lines * w) _ room p (pos 0) u ∙ tile_at_lem width a plane p l))
+      (λ u. not_written p (inl u) ∙ sym (laid_before tile (start * w) (count * w) _ room p (pos 0) u ∙ tile_at_lem width a plane p l))
       (λ u.
       ⊎_elim
       (λ v.
       let r = p - start * w in
       let e : start * w + r ≡ p = omega arith in
-      let bj : r / w < lines = (div-lt_iff_lt-mul k.some).1 (omega arith) in
+      let bj : r / w < count = (div-lt_iff_lt-mul k.some).1 (omega arith) in
       let same : (start + r / w) * w + r % w ≡ p = omega (arith, add-mul start (r / w) w, div-add-mod' r w) in
       ap (λ (i : ℕ). get_or written (place_of width a i) (pos 0)) (sym same)
       ∙ ap (λ (i : ℕ). get_or written i (pos 0)) (sym (place_is (r / w) (r % w) (mod-lt r k.some)))
       ∙ is_written (r / w) (r % w) bj (mod-lt r k.some)
-      ∙ sym (laid_at tile (start * w) (lines * w) (λ p. g (p / w) (p % w)) room r (pos 0) (omega arith))
+      ∙ sym (laid_at tile (start * w) (count * w) (λ p. g (p / w) (p % w)) room r (pos 0) (omega arith))
       ∙ ap (λ (i : ℕ). get_or new i (pos 0)) e)
       (λ v.
-      let e : start * w + lines * w + (p - (start * w + lines * w)) ≡ p = omega arith in
+      let e : start * w + count * w + (p - (start * w + count * w)) ≡ p = omega arith in
       not_written p (inr v)
       ∙ sym (tile_at_lem width a plane p l)
-      ∙ sym (rw e at (laid_after tile (start * w) (lines * w) (λ p. g (p / w) (p % w)) room (p - (start * w + lines * w)) (pos 0))))
-      (split p (start * w + lines * w)))
+      ∙ sym (rw e at (laid_after tile (start * w) (count * w) (λ p. g (p / w) (p % w)) room (p - (start * w + count * w)) (pos 0))))
+      (split p (start * w + count * w)))
       (split p (start * w))
 
   outside : (q : ℕ) → is_in width a q ≡ false → get_or written q (pos 0) ≡ get_or plane q (pos 0)
   outside q e =
-      grid_out plane lines w place g q (pos 0)
+      grid_out plane count w place g q (pos 0)
       (λ j f bj bf h.
       false≢true
       (sym e ∙ ap (is_in width a) (h ∙ place_is j f bf) ∙ place_in k ((start + j) * w + f) (number_lt j f bj bf)))
 
   -- the lines written into the plane are the tile with those lines replaced, put in its places
   pub rows_put : written ≡ put_tile width a new plane
-  rows_put = put_is new plane k written (length_grid plane lines w place g) inside (λ q l e. outside q e)
+  rows_put = put_is new plane k written (length_grid plane count w place g) inside (λ q l e. outside q e)

@@ -1,7 +1,8 @@
 -- Reachable records, tiles that never overlap, a place for a new tile, a closed place, the smallest free number, and places outside a call's own
 -- tile. Assumes nothing.
 use mathlib.Core.Path.{◌≡◌, refl, sym, ap, ap₂, ◌∙◌}
-use mathlib.Core.Bool.{Bool, true, false, cond, not, ◌&&◌, true≢false}
+use mathlib.Core.Bool.{Bool, true, false, cond, not, and_assoc, ◌&&◌, true≢false}
+use Rattle.std.specs.Cmp.Derive.{both_true}
 use mathlib.Core.Logic.{◌≢◌, ⊎_elim}
 use mathlib.Core.List.{List}
 use Prim.Native.Nat.{ℕ, ◌+◌, ◌*◌, ◌%◌, ◌<◌}
@@ -18,7 +19,7 @@ use Rattle.tickets.specs.declared.Batch.{Batch}
 use Rattle.plane.specs.Places.{Area, overlap, is_in, tile_of, put_tile}
 use Rattle.plane.specs.Plane.{no_tile, tile_at, is_open, area_of, new_tile, with_tile, ticket_ok, placed, plane_ok, tile_answer, plane_after, first_free, has_place, made, opening, closing}
 use Rattle.plane.specs.Batch.{Kept, unless, columns_in, rows_in}
-use Rattle.plane.specs.Calls.{opens, closes, batches, world_at, column_turn, row_turn, turn}
+use Rattle.plane.specs.Calls.{opens, closes, batches, frame_at, column_turn, row_turn, turn}
 use Rattle.plane.specs.Record.{Reachable, NeverOverlap, Placing, PlaceFound, Reopened, SmallestFree, OutsideKept}
 use Rattle.plane.specs.declared.Plane.{Plane}
 use Rattle.plane.specs.declared.Tile.{Tile}
@@ -30,7 +31,7 @@ use Rattle.plane.proofs.Turns.{made_good, good_all}
 
 pub reachable : Reachable
 reachable w h output sides cs =
-    let g = good_all cs (world_at (made w h) output) (made_good w h sides) in (fine_ok g.fine, g.wide, g.high)
+    let g = good_all cs (frame_at (made w h) output) (made_good w h sides) in (fine_ok g.fine, g.wide, g.high)
 
 -- ---- tiles never overlap
 
@@ -96,19 +97,9 @@ on_grid a = eqb (a.x % 4) 0 && eqb (a.y % 4) 0
 placed_same : (w h : ℕ) (s t : Tile) → t.room < 2 → area_of t ≡ area_of s → placed w h s ≡ true → placed w h t ≡ true
 unfolding placed
 placed_same w h s t few e ok =
-    regroup (inside w h (area_of t)) (on_grid (area_of t)) (ltb t.room 2)
-    (ap (λ (a : Area). inside w h a && on_grid a) e ∙ grouped (inside w h (area_of s)) (on_grid (area_of s)) (ltb s.room 2) ok)
-    (lt-ltb t.room 2 few)
-  where
-    regroup : (x y z : Bool) → (x && y) ≡ true → z ≡ true → (x && (y && z)) ≡ true
-    regroup true true z e f = f
-    regroup true false z e f = e
-    regroup false y z e f = e
-
-    grouped : (x y z : Bool) → (x && (y && z)) ≡ true → (x && y) ≡ true
-    grouped true true z e = refl
-    grouped true false z e = e
-    grouped false y z e = e
+    let there = both (inside w h (area_of s) && on_grid (area_of s)) (ltb s.room 2) (and_assoc (inside w h (area_of s)) (on_grid (area_of s)) (ltb s.room 2) ∙ ok) in
+    sym (and_assoc (inside w h (area_of t)) (on_grid (area_of t)) (ltb t.room 2))
+    ∙ both_true (ap (λ (a : Area). inside w h a && on_grid a) e ∙ there.0) (lt-ltb t.room 2 few)
 
 pub reopened : Reopened
 unfolding closing
@@ -142,8 +133,8 @@ smallest_free s site residuals scratch n e =
         free = ap (λ (i : ℕ). is_open (tile_at p i)) k.number ∙ free_closed p k.small;
         least = λ i l. before_open p i (omega (arith, k.number));
       },
-      ap (λ (a : Answer). world_at (plane_after a (with_tile p (first_free p) (new_tile site)) p) s.output) e
-          ∙ ap (λ (i : ℕ). world_at (with_tile p i (new_tile site)) s.output) (sym k.number),
+      ap (λ (a : Answer). frame_at (plane_after a (with_tile p (first_free p) (new_tile site)) p) s.output) e
+          ∙ ap (λ (i : ℕ). frame_at (with_tile p i (new_tile site)) s.output) (sym k.number),
     )
 
 -- ---- outside the tile
@@ -186,6 +177,6 @@ outside_kept s (closes room n) = (refl, λ q e. refl)
 outside_kept s (batches room n b residuals scratch) = go b.row
   where
     go : (row : Bool) → KeptOutside s.plane.w (area_of (tile_at s.plane n)) s.output
-        (cond row (row_turn scratch (rows_in s.plane room n b scratch s.output)) (column_turn s (columns_in s.plane room n b residuals scratch))).world.output
+        (cond row (row_turn scratch (rows_in s.plane room n b scratch s.output)) (column_turn s (columns_in s.plane room n b residuals scratch))).frame.output
     go true = rows_kept s.plane room n b scratch s.output
     go false = (refl, λ q e. refl)

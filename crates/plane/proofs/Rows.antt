@@ -1,13 +1,13 @@
 -- A row batch of a tile: a preview of its lines, put in the tile's places. Assumes nothing.
 use mathlib.Core.Path.{◌≡◌, refl, sym, ap, ap₂, ◌∙◌}
-use mathlib.Core.Bool.{Bool, true, false, not, ◌&&◌, ◌||◌, and-false}
+use mathlib.Core.Bool.{Bool, true, false, ◌&&◌}
 use mathlib.Core.Logic.{⊎_elim}
 use mathlib.Core.List.{List}
 use Prim.Native.Nat.{ℕ, ◌+◌, ◌*◌, ◌/◌, ◌%◌, ◌≤◌, ◌<◌}
 use native.Mathlib.Nat.{le_refl, zero-add, mul_comm, mul-le-mul, mul-le-mul_right, div-add-mod'}
 use native.Mathlib.Omega.{arith}
 use borrow.Author.Tests.{lt-ltb, le-ltb}
-use lib.Dec.{eqb, ltb}
+use lib.Dec.{ltb}
 use lib.IntN.{ℤ, pos}
 use lib.ListN.{length, get_or, replicate}
 use Rattle.laws.specs.Store.{grid}
@@ -17,10 +17,10 @@ use Rattle.answer.specs.Answer.{Answer, answers, refuses, number_of, lowest}
 use Rattle.std.specs.Prelude.{Ok, Err}
 use Rattle.answer.specs.declared.Refusal.{Refusal}
 use Rattle.sizes.proofs.Side.{side_bounds}
-use Rattle.tickets.specs.Batch.{batch_of, is_count, out_of_range, answer_unless, with_batch, lines_of, batch}
+use Rattle.tickets.specs.Batch.{batch_of, is_count, answer_unless, with_batch, lines_of, batch}
 use Rattle.tickets.specs.declared.Batch.{Batch}
 use Rattle.tickets.specs.declared.Ticket.{Ticket}
-use Rattle.tickets.proofs.Reached.{in_range}
+use Rattle.tickets.proofs.Reached.{counted_few}
 use Rattle.previews.specs.Preview.{is_short, preview_answer, Preview, shows, lines_shown, preview_of}
 use Rattle.previews.proofs.Shown.{Shown, accepted, number_in, lines_laid, number_is}
 use Rattle.plane.specs.Batch.{rows_in}
@@ -39,16 +39,11 @@ use Rattle.plane.proofs.Ways.{gave, not_marked, is_marked}
 abbrev zeros : List ℤ
 zeros = replicate 256 (pos 0)
 
-few_lines : (lines : ℕ) → is_count lines ≡ true → lines ≤ 8
-unfolding out_of_range
-few_lines lines c =
-    (in_range lines 0 lines (ap₂ ◌||◌ (ap not c) (ap₂ ◌||◌ (and-false (eqb lines 4 || eqb lines 8)) (le-ltb lines (0 + lines) (omega arith))))).few
-
-enough : (lines w : ℕ) → w ≤ 32 → is_short lines w 256 ≡ false
+enough : (count w : ℕ) → w ≤ 32 → is_short count w 256 ≡ false
 unfolding is_short
-enough lines w l =
-    ⊎_elim (λ c. ap₂ ◌&&◌ c (le-ltb 256 (lines * w) (mul-le-mul (few_lines lines c) l))) (λ c. ap (λ (x : Bool). x && ltb 256 (lines * w)) c)
-    (decided (is_count lines))
+enough count w l =
+    ⊎_elim (λ c. ap₂ ◌&&◌ c (le-ltb 256 (count * w) (mul-le-mul (counted_few count c) l))) (λ c. ap (λ (x : Bool). x && ltb 256 (count * w)) c)
+    (decided (is_count count))
 
 -- ---- a plane and its named tile
 
@@ -63,22 +58,22 @@ module _ {p : Plane} {room n m : ℕ} (k : TileKnown p room n m) where
   plane_small = mul-le-mul plane_sides.wide plane_sides.high
 
 -- what is asked for to put the lines there, and to mark them
-pub record RowsAsked (p : Plane) (t : Tile) (start lines output : ℕ) : Type 0 where
+pub record RowsAsked (p : Plane) (t : Tile) (start count output : ℕ) : Type 0 where
   pub some : 1 ≤ t.ticket.w
-  pub long : lines * t.ticket.w ≤ 256
+  pub long : count * t.ticket.w ≤ 256
   pub across : t.x + t.ticket.w ≤ p.w
-  pub down : (t.y + start + lines) * p.w ≤ output
+  pub down : (t.y + start + count) * p.w ≤ output
   pub low : t.y + start ≤ 256
-  pub few : start + lines ≤ 32
+  pub few : start + count ≤ 32
 
 -- ---- the ways out of a row batch whose tile is named
 
-module _ (p : Plane) (room n start lines : ℕ) (scratch output : List ℤ) (e : answers n ≡ tile_answer p room n) where
+module _ (p : Plane) (room n start count : ℕ) (scratch output : List ℤ) (e : answers n ≡ tile_answer p room n) where
   abbrev t : Ticket
   t = (tile_at p n).ticket
 
   abbrev b : Batch
-  b = batch_of true start lines
+  b = batch_of true start count
 
   abbrev area : Area
   area = area_of (tile_at p n)
@@ -114,7 +109,7 @@ module _ (p : Plane) (room n start lines : ℕ) (scratch output : List ℤ) (e :
     same_answer =
         let size : t.w * t.h ≤ p.w * p.h = mul-le-mul (omega (arith, i.across)) (omega (arith, i.down)) in
         rw (
-          enough lines t.w (side_bounds t.w i.side_w).high,
+          enough count t.w (side_bounds t.w i.side_w).high,
           le-ltb (length output) (t.w * t.h) (omega arith),
           le-ltb (length output) (p.w * p.h) long,
           length_tile p.w area output,
@@ -135,10 +130,10 @@ module _ (p : Plane) (room n start lines : ℕ) (scratch output : List ℤ) (e :
       shown : Shown t b (length scratch) (length output) 256
       shown = accepted t b (length scratch) (length output) 256 x answer
 
-      pub rows_asked : RowsAsked p (tile_at p n) start lines (length output)
+      pub rows_asked : RowsAsked p (tile_at p n) start count (length output)
       rows_asked =
-          let ends : start + lines ≤ t.h = shown.taken.ends in
-          let down : (area.y + start + lines) * p.w ≤ p.h * p.w = mul-le-mul_right p.w (omega (arith, i.down)) in
+          let ends : start + count ≤ t.h = shown.taken.ends in
+          let down : (area.y + start + count) * p.w ≤ p.h * p.w = mul-le-mul_right p.w (omega (arith, i.down)) in
           record {
             some = lies.some;
             long = shown.long;
@@ -152,19 +147,19 @@ module _ (p : Plane) (room n start lines : ℕ) (scratch output : List ℤ) (e :
       unfolding preview_of
       rows_are = ap (λ (v : Preview). v.shown) f ∙ rw (sym answer)
 
-      number : (q : ℕ) → q < lines * t.w → line_number rows t.w (q / t.w) (q % t.w) ≡ number_in t b scratch q
+      number : (q : ℕ) → q < count * t.w → line_number rows t.w (q / t.w) (q % t.w) ≡ number_in t b scratch q
       number q l =
           ap (λ (i : ℕ). get_or rows i (pos 0)) (div-add-mod' q t.w ∙ sym (zero-add q))
           ∙ ap (λ (r : List ℤ). get_or r (0 + q) (pos 0)) rows_are
-          ∙ laid_at zeros 0 (lines * t.w) (λ q. get_or (batch t b scratch output).buffer (start * t.w + q) (pos 0)) (omega (arith, shown.long)) q (pos 0) l
+          ∙ laid_at zeros 0 (count * t.w) (λ q. get_or (batch t b scratch output).buffer (start * t.w + q) (pos 0)) (omega (arith, shown.long)) q (pos 0) l
           ∙ number_is t b scratch output shown.taken shown.batch_too q l
 
-      pub rows_done : {d : List ℤ} → d ≡ grid output lines t.w (plane_place p.w area.x (area.y + start)) (line_number rows t.w)
+      pub rows_done : {d : List ℤ} → d ≡ grid output count t.w (plane_place p.w area.x (area.y + start)) (line_number rows t.w)
           → gave (answers x) (with_tile p n (with_ticket (tile_at p n) (with_batch t b))) d ≡ rows_in p room n b scratch output
       unfolding rows_in
       rows_done g =
           is_marked p n e b written output (answer ∙ same_answer) refl
           (g
-          ∙ rows_put output lies start lines shown.taken.ends (line_number rows t.w)
+          ∙ rows_put output lies start count shown.taken.ends (line_number rows t.w)
           ∙ ap (λ (l : List ℤ). put_tile p.w area l output)
-          (laid_ext tile (start * t.w) (lines * t.w) _ (number_in t b scratch) number ∙ sym (lines_laid t true start lines scratch tile)))
+          (laid_ext tile (start * t.w) (count * t.w) _ (number_in t b scratch) number ∙ sym (lines_laid t true start count scratch tile)))

@@ -1,36 +1,22 @@
 -- A record that keeps the rules, by what each rule says. Assumes nothing.
-use mathlib.Core.Path.{◌≡◌, refl, sym, ap, ap₂, ◌∙◌}
-use mathlib.Core.Bool.{Bool, true, false, not, ◌&&◌, ◌||◌, false≢true}
+use mathlib.Core.Path.{◌≡◌, sym, ap, ap₂, ◌∙◌}
+use mathlib.Core.Bool.{Bool, true, false, not, and_comm, ◌&&◌}
 use mathlib.Core.Logic.{◌≢◌, ⊎_elim}
 use Prim.Native.Nat.{ℕ, ◌+◌, ◌%◌, ◌<◌, ◌≤◌}
 use native.Mathlib.Omega.{arith}
 use borrow.Author.Tests.{not-true, leb-true, ltb-true, ltb-false}
 use lib.Dec.{eqb, leb, ltb}
 use Rattle.laws.specs.Table.{every}
-use Rattle.laws.proofs.Bool.{both}
+use Rattle.laws.proofs.Bool.{both, nand, implies, implied}
 use Rattle.laws.proofs.Every.{every_all, every_each}
 use Rattle.laws.proofs.Place.{split}
 use Rattle.sizes.specs.Size.{is_side}
-use Rattle.block.specs.Answer.{has_kinds}
+use Rattle.block.specs.Call.{has_kinds}
 use Rattle.tickets.specs.Batch.{out_of_order}
 use Rattle.plane.specs.Places.{Area, overlap}
 use Rattle.plane.specs.Plane.{tile_at, is_open, area_of, sides_ok, ticket_ok, placed, tile_ok, clash, apart, plane_ok}
 use Rattle.plane.specs.declared.Plane.{Plane}
 use Rattle.plane.specs.declared.Tile.{Tile}
-
--- ---- tests
-
-nand : (x y : Bool) → (x ≡ true → y ≡ false) → not (x && y) ≡ true
-nand true y f = ap not (f refl)
-nand false y f = refl
-
-implies : (x y : Bool) → (x ≡ true → y ≡ true) → (not x || y) ≡ true
-implies true y f = f refl
-implies false y f = refl
-
-implied : (x y : Bool) → (not x || y) ≡ true → x ≡ true → y ≡ true
-implied true y e h = e
-implied false y e h = absurd (false≢true h)
 
 -- ---- one tile
 
@@ -102,14 +88,8 @@ pub overlap_sym : (a b : Area) → overlap a b ≡ overlap b a
 unfolding overlap
 overlap_sym a b = go (ltb b.x (a.x + a.w)) (ltb a.x (b.x + b.w)) (ltb b.y (a.y + a.h)) (ltb a.y (b.y + b.h))
   where
-    and : (x y : Bool) → (x && y) ≡ (y && x)
-    and true true = refl
-    and true false = refl
-    and false true = refl
-    and false false = refl
-
     go : (x y u v : Bool) → ((x && y) && (u && v)) ≡ ((y && x) && (v && u))
-    go x y u v = ap₂ ◌&&◌ (and x y) (and u v)
+    go x y u v = ap₂ ◌&&◌ (and_comm x y) (and_comm u v)
 
 module _ (p : Plane) where
   -- of two open tiles, the one of the greater number first

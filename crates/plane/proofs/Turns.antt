@@ -14,7 +14,7 @@ use Rattle.tickets.proofs.Order.{order_after}
 use Rattle.plane.specs.Places.{tile_of}
 use Rattle.plane.specs.Plane.{no_tile, tile_at, is_open, area_of, new_tile, with_tile, sides_ok, ticket_ok, plane_after, made, first_free, open_answer, tile_answer, opening, closing}
 use Rattle.plane.specs.Batch.{Kept, with_marks, unless, columns_in, rows_in}
-use Rattle.plane.specs.Calls.{Call, opens, closes, batches, World, column_turn, row_turn, turn, world_after}
+use Rattle.plane.specs.Calls.{Call, opens, closes, batches, Frame, column_turn, row_turn, turn, frame_after}
 use Rattle.plane.specs.declared.Plane.{Plane}
 use Rattle.plane.specs.declared.Tile.{Tile}
 use Rattle.plane.proofs.Rules.{Lying, lying}
@@ -86,21 +86,21 @@ module _ {width height : ℕ} {p : Plane} (g : Good width height p) where
       let k = open_known p t residuals ls lo m (sym e) in
       record { fine = open_fine (first_free p) t g.fine k.small k.valid; wide = g.wide; high = g.high }
 
-pub good_turn : {width height : ℕ} (s : World) (c : Call) → Good width height s.plane → Good width height (turn s c).world.plane
+pub good_turn : {width height : ℕ} (s : Frame) (c : Call) → Good width height s.plane → Good width height (turn s c).frame.plane
 unfolding turn opening closing
 good_turn s (opens site residuals scratch) g = good_open g (new_tile site) residuals (length scratch) (length s.output) _ refl
 good_turn s (closes room n) g = good_close g room n _ refl
 good_turn {width} {height} s (batches room n b residuals scratch) g = go b.row
   where
     go : (row : Bool) → Good width height (cond row (row_turn scratch (rows_in s.plane room n b scratch s.output))
-        (column_turn s (columns_in s.plane room n b residuals scratch))).world.plane
+        (column_turn s (columns_in s.plane room n b residuals scratch))).frame.plane
     go true = good_rows g room n b scratch s.output
     go false = good_columns g room n b residuals scratch
 
-pub fine_turn : (s : World) (c : Call) → Fine s.plane → Fine (turn s c).world.plane
+pub fine_turn : (s : Frame) (c : Call) → Fine s.plane → Fine (turn s c).frame.plane
 fine_turn s c f = (good_turn s c (record { fine = f; wide = refl; high = refl })).fine
 
-pub good_all : {width height : ℕ} (cs : List Call) (s : World) → Good width height s.plane → Good width height (world_after s cs).plane
-unfolding world_after
+pub good_all : {width height : ℕ} (cs : List Call) (s : Frame) → Good width height s.plane → Good width height (frame_after s cs).plane
+unfolding frame_after
 good_all [] s g = g
-good_all (c ∷ cs) s g = good_all cs (turn s c).world (good_turn s c g)
+good_all (c ∷ cs) s g = good_all cs (turn s c).frame (good_turn s c g)

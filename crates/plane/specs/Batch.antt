@@ -19,7 +19,7 @@ pub record Kept : Type 0 where
 abbrev pub kept : Planed → List ℤ → Kept
 kept r buffer = record { answer = told r.outcome; plane = r.plane; buffer = buffer }
 
--- and as the change of an accepted call makes them
+-- and as the change of an accepted call makes them. No public contract mentions it
 abbrev pub kept_by : Plane → Result Change Refusal → List ℤ → Kept
 kept_by p r buffer = let g = planned_by p r in record { answer = g.answer; plane = g.plane; buffer = buffer }
 

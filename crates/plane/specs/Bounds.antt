@@ -1,4 +1,4 @@
--- The bounds of tiles, in lists by number, and the test of all pairs on them.
+-- The bounds of tiles, in lists by number, and the test of all pairs on them. No public contract mentions them.
 use Rattle.std.specs.Prelude.{◌≡◌, Bool, true, cond, not, ◌&&◌, ℕ, suc, ◌+◌, ◌≤◌, ltb, get_or}
 use Rattle.laws.specs.Table.{every}
 use Rattle.plane.specs.Plane.{is_open}

@@ -4,7 +4,7 @@ use Rattle.std.specs.Prelude.{◌≡◌, true, cond, ◌&&◌, List, [], ◌∷�
 use Rattle.laws.specs.Store.{tab}
 use Rattle.answer.specs.Answer.{Answer, answers, refuses}
 use Rattle.plane.specs.Plane.{tile_at, is_open, no_tile, sides_ok, made}
-use Rattle.plane.specs.Calls.{Call, opens, closes, batches, world_at, Turn, turn}
+use Rattle.plane.specs.Calls.{Call, opens, closes, batches, frame_at, Turn, turn}
 use Rattle.plane.specs.declared.Plane.{Plane}
 use Rattle.plane.specs.declared.Site.{Site}
 use Rattle.plane.specs.declared.Tile.{Tile}
@@ -15,7 +15,7 @@ pub record Lent : Type 0 where
   pub output : List ℤ
 
 abbrev pub next : Plane → Lent → Turn
-next p l = turn (world_at p l.output) l.call
+next p l = turn (frame_at p l.output) l.call
 
 abbrev pub room_of : Call → ℕ
 room_of (opens site residuals scratch) = site.room
@@ -43,7 +43,7 @@ unfoldable pub deeds_for : ℕ → Plane → List Lent → List Deed
 deeds_for r p [] = []
 deeds_for r p (l ∷ ls) =
     cond (eqb (room_of l.call) r) (own l.call (length l.output) ∷ []) (deed_of l.call (next p l).answer)
-    ++ deeds_for r (next p l).world.plane ls
+    ++ deeds_for r (next p l).frame.plane ls
 
 -- a room's open tiles by number, with their tickets
 unfoldable pub tiles_for : ℕ → Plane → List Tile
@@ -55,13 +55,13 @@ pub record Shown : Type 0 where
   pub tiles : List Tile
 
 abbrev pub shown : ℕ → Turn → Shown
-shown r t = record { answer = t.answer; tiles = tiles_for r t.world.plane }
+shown r t = record { answer = t.answer; tiles = tiles_for r t.frame.plane }
 
 -- and of all its calls in a list
 unfoldable pub shown_to : ℕ → Plane → List Lent → List Shown
 shown_to r p [] = []
 shown_to r p (l ∷ ls) =
-    cond (eqb (room_of l.call) r) (shown r (next p l) ∷ shown_to r (next p l).world.plane ls) (shown_to r (next p l).world.plane ls)
+    cond (eqb (room_of l.call) r) (shown r (next p l) ∷ shown_to r (next p l).frame.plane ls) (shown_to r (next p l).frame.plane ls)
 
 -- "Given the same plane", and the same deeds, a room is shown the same
 abbrev pub Isolation : Type 0

@@ -1,7 +1,7 @@
 -- A tile's places in a plane, "row by row". The plane is width numbers wide.
 use Rattle.std.specs.Prelude.{Bool, cond, ◌&&◌, List, ℕ, ◌+◌, ◌-◌, ◌*◌, ◌/◌, ◌%◌, ltb, ℤ, pos, length, get_or}
 use Rattle.laws.specs.Store.{tab}
-use Rattle.tickets.specs.Mark.{within}
+use Rattle.tickets.specs.Mark.{is_among}
 
 -- where a tile lies, and its sides
 pub record Area : Type 0 where
@@ -24,14 +24,14 @@ tile_of width a plane = tab (a.w * a.h) (λ p. get_or plane (place_of width a p)
 
 -- place q of the plane is one of the tile's
 unfoldable pub is_in : ℕ → Area → ℕ → Bool
-is_in width a q = within a.x a.w (q % width) && within a.y a.h (q / width)
+is_in width a q = is_among a.x a.w (q % width) && is_among a.y a.h (q / width)
 
 -- a plane with a tile's numbers put in their places
 unfoldable pub put_tile : ℕ → Area → List ℤ → List ℤ → List ℤ
 put_tile width a tile plane =
     tab (length plane) (λ q. cond (is_in width a q) (get_or tile ((q / width - a.y) * a.w + (q % width - a.x)) (pos 0)) (get_or plane q (pos 0)))
 
--- the plane's place of number f of a line that is i rows below place x, y
+-- the plane's place of number f of a line that is i rows below place x, y. No public contract mentions it, nor the next
 abbrev pub plane_place : ℕ → ℕ → ℕ → ℕ → ℕ → ℕ
 plane_place width x y i f = (y + i) * width + x + f
 

@@ -6,7 +6,7 @@ use Rattle.answer.specs.Answer.{Answer, answers, refuses, number_of, lowest, tol
 use Rattle.answer.specs.declared.Refusal.{Refusal}
 use Rattle.sizes.specs.Size.{is_side}
 use Rattle.residual.specs.Residual.{residuals_ok}
-use Rattle.block.specs.Answer.{has_kinds}
+use Rattle.block.specs.Call.{has_kinds}
 use Rattle.tickets.specs.Batch.{out_of_order}
 use Rattle.tickets.specs.Open.{new_ticket}
 use Rattle.tickets.specs.declared.Ticket.{Ticket}
@@ -120,12 +120,12 @@ tile_answer p room n = lowest ((not (ltb room 2 && plane_ok p), 13) ∷ (not (op
 unfoldable pub make_answer : ℕ → ℕ → Answer
 make_answer w h = lowest ((not (sides_ok w h), 1) ∷ []) 0
 
--- a number, or 16 where there is none
+-- a number, or 16 where there is none. No public contract mentions it
 abbrev pub number_or_16 : Option ℕ → ℕ
 number_or_16 (Some n) = n
 number_or_16 None = 16
 
--- what a tile that a call names answers: its number n
+-- what a tile that a call names answers: its number n. No public contract mentions it
 abbrev pub named_as : ℕ → Result Tile Refusal → Answer
 named_as n (Ok t) = answers n
 named_as n (Err why) = refuses (number_of why)
@@ -145,7 +145,7 @@ pub record Planned : Type 0 where
 abbrev pub planned : Planed → Planned
 planned r = record { answer = told r.outcome; plane = r.plane }
 
--- and as the change of an accepted call makes them
+-- and as the change of an accepted call makes them. No public contract mentions it
 abbrev pub planned_by : Plane → Result Change Refusal → Planned
 planned_by p (Ok c) = record { answer = answers c.answer; plane = with_tile p c.n c.tile }
 planned_by p (Err why) = record { answer = refuses (number_of why); plane = p }

@@ -3,7 +3,7 @@ use Rattle.std.specs.Prelude.{◌≡◌, Bool, true, false, ◌≢◌, List, ℕ
 use Rattle.answer.specs.Answer.{answers}
 use Rattle.plane.specs.Places.{overlap, is_in}
 use Rattle.plane.specs.Plane.{tile_at, is_open, area_of, new_tile, with_tile, sides_ok, ticket_ok, placed, plane_ok, first_free, has_place, made, closing}
-use Rattle.plane.specs.Calls.{Call, opens, closes, batches, world_at, World, turn, world_after}
+use Rattle.plane.specs.Calls.{Call, opens, closes, batches, frame_at, Frame, turn, frame_after}
 use Rattle.plane.specs.declared.Plane.{Plane}
 use Rattle.plane.specs.declared.Site.{Site}
 use Rattle.plane.specs.declared.Tile.{Tile}
@@ -12,7 +12,7 @@ use Rattle.plane.specs.declared.Tile.{Tile}
 abbrev pub Reachable : Type 0
 Reachable =
     (w h : ℕ) (output : List ℤ) → sides_ok w h ≡ true → (cs : List Call) →
-    let p = (world_after (world_at (made w h) output) cs).plane in (plane_ok p ≡ true) × (p.w ≡ w) × (p.h ≡ h)
+    let p = (frame_after (frame_at (made w h) output) cs).plane in (plane_ok p ≡ true) × (p.w ≡ w) × (p.h ≡ h)
 
 -- "Tiles in a plane never overlap": no place of the plane is in two
 abbrev pub NeverOverlap : Type 0
@@ -49,9 +49,9 @@ pub record Smallest (p : Plane) (n : ℕ) : Type 0 where
 -- and that number's tile is all that an opening changes
 abbrev pub SmallestFree : Type 0
 SmallestFree =
-    (s : World) (site : Site) (residuals scratch : List ℤ) (n : ℕ) →
+    (s : Frame) (site : Site) (residuals scratch : List ℤ) (n : ℕ) →
     let r = turn s (opens site residuals scratch) in
-    r.answer ≡ answers n → Smallest s.plane n × (r.world ≡ world_at (with_tile s.plane n (new_tile site)) s.output)
+    r.answer ≡ answers n → Smallest s.plane n × (r.frame ≡ frame_at (with_tile s.plane n (new_tile site)) s.output)
 
 -- place q of the plane is one of the tile's that the call names; an opening and a closing have none
 abbrev pub is_own : Plane → Call → ℕ → Bool
@@ -62,6 +62,6 @@ is_own p (batches room n b residuals scratch) q = is_in p.w (area_of (tile_at p 
 -- a call changes no place of the output outside its own tile, whatever record it is lent
 abbrev pub OutsideKept : Type 0
 OutsideKept =
-    (s : World) (c : Call) →
-    let after = (turn s c).world.output in
+    (s : Frame) (c : Call) →
+    let after = (turn s c).frame.output in
     (length after ≡ length s.output) × ((q : ℕ) → is_own s.plane c q ≡ false → get_or after q (pos 0) ≡ get_or s.output q (pos 0))

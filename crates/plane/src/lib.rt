@@ -91,7 +91,7 @@ fn sides_ok(w: usize, h: usize) -> bool
 fn is_placed(w: usize, h: usize, t: Tile) -> bool
     ensures { result ≡ placed w h t }
 {
-    (!lines::ends_past(w, t.x, t.ticket.w) & !lines::ends_past(h, t.y, t.ticket.h))
+    (!sizes::ends_past(w, t.x, t.ticket.w) & !sizes::ends_past(h, t.y, t.ticket.h))
         & (((t.x % 4 == 0) & (t.y % 4 == 0)) & (t.room < 2))
 }
 
@@ -306,11 +306,11 @@ pub fn tile_columns(
     residuals: &[i32],
     scratch: &mut [i32],
     start: usize,
-    lines: usize,
+    count: usize,
 ) -> Planed
-    ensures { kept result scratch.new ≡ columns_in plane room n (batch_of false start lines) residuals.now scratch.old }
+    ensures { kept result scratch.new ≡ columns_in plane room n (batch_of false start count) residuals.now scratch.old }
 {
-    let batch = Batch::columns(start, lines);
+    let batch = Batch::columns(start, count);
     let change = columns_of(&plane, room, n, batch, residuals, scratch);
     plane.after(change)
 }
@@ -320,16 +320,16 @@ pub fn tile_columns(
 fn put_lines(
     from: &[i32],
     w: usize,
-    lines: usize,
+    count: usize,
     width: usize,
     x: usize,
     y: usize,
     output: &mut [i32],
 )
-    requires { (1 ≤ w) × (lines * w ≤ length from.now) × (x + w ≤ width) × ((y + lines) * width ≤ length output.old) }
-    ensures { output.new ≡ grid output.old lines w (plane_place width x y) (line_number from.now w) }
+    requires { (1 ≤ w) × (count * w ≤ length from.now) × (x + w ≤ width) × ((y + count) * width ≤ length output.old) }
+    ensures { output.new ≡ grid output.old count w (plane_place width x y) (line_number from.now w) }
 {
-    for i in 0..lines {
+    for i in 0..count {
         let at = (y + i) * width + x;
         let line = i * w;
         output[at..at + w].copy_from_slice(&from[line..line + w]);
@@ -343,21 +343,21 @@ fn rows_of(
     room: u32,
     n: usize,
     start: usize,
-    lines: usize,
+    count: usize,
     scratch: &[i32],
     output: &mut [i32],
 ) -> Result<Change, Refusal>
-    ensures { kept_by p.now result output.new ≡ rows_in p.now room n (batch_of true start lines) scratch.now output.old }
+    ensures { kept_by p.now result output.new ≡ rows_in p.now room n (batch_of true start count) scratch.now output.old }
 {
     let tile = named(p, room, n)?;
     if output.len() < p.w * p.h {
         return Err(Refusal::ShortBuffer);
     }
-    let batch = Batch::rows(start, lines);
+    let batch = Batch::rows(start, count);
     let ticket = tile.ticket;
     let mut rows = [0i32; 256];
     let answer = previews::preview(ticket, batch, scratch, output, &mut rows)?;
-    put_lines(&rows, ticket.w, lines, p.w, tile.x, tile.y + start, output);
+    put_lines(&rows, ticket.w, count, p.w, tile.x, tile.y + start, output);
     let tile = Tile {
         ticket: tickets::with_batch(ticket, batch),
         ..tile
@@ -373,11 +373,11 @@ pub fn tile_rows(
     scratch: &[i32],
     output: &mut [i32],
     start: usize,
-    lines: usize,
+    count: usize,
 ) -> Planed
-    ensures { kept result output.new ≡ rows_in plane room n (batch_of true start lines) scratch.now output.old }
+    ensures { kept result output.new ≡ rows_in plane room n (batch_of true start count) scratch.now output.old }
 {
-    let change = rows_of(&plane, room, n, start, lines, scratch, output);
+    let change = rows_of(&plane, room, n, start, count, scratch, output);
     plane.after(change)
 }
 

@@ -13,12 +13,12 @@ use Rattle.tickets.specs.Run as batches
 use Rattle.tickets.specs.Run.{State, state_at, step}
 use Rattle.tickets.specs.Condition3 as alone
 use Rattle.tickets.specs.Condition3.{answer_to, ticket_of, state_of}
-use Rattle.tickets.specs.Reading.{Reading}
+use Rattle.tickets.specs.ByPlace.{ByPlace}
 use Rattle.tickets.proofs.Opened.{Opened, opened}
 use Rattle.tickets.proofs.Reached.{Reached, reached_none, reached_with}
 use Rattle.tickets.proofs.Step.{step_is}
 use Rattle.tickets.proofs.Condition3.{opening_is}
-use Rattle.tickets.proofs.Reading.{reads}
+use Rattle.tickets.proofs.ByPlace.{reads}
 use Rattle.previews.specs.Calls.{Call, runs, looks, Turn, batch_turn, preview_turn, turn, nth, state_after, Run, run}
 use Rattle.previews.specs.Condition3.{covered_next, covered, answer_to_call, shown_by, settled, Condition3, PlaceByPlace, BatchesAlone}
 use Rattle.previews.proofs.InList.{preview_is}
@@ -91,7 +91,7 @@ condition3 w h ck rk residuals scratch output e cs =
 pub place_by_place : PlaceByPlace
 unfolding settled
 place_by_place w h ck rk residuals scratch output e cs =
-    subst (λ (r : Run). Reading w h ck rk residuals scratch output (covered w h cs (length cs)) r.state)
+    subst (λ (r : Run). ByPlace w h ck rk residuals scratch output (covered w h cs (length cs)) r.state)
     (sym (condition3 w h ck rk residuals scratch output e cs))
     (reads w h ck rk residuals scratch output (opened w h ck rk residuals (length scratch) (length output) e) (reached w h cs (length cs)))
 

@@ -19,7 +19,7 @@ use Rattle.tickets.specs.declared.Batch.{Batch}
 use Rattle.tickets.specs.Run.{State}
 use Rattle.tickets.specs.Condition3.{answer_to, covered_with, ticket_of, held, number_at, state_of}
 use Rattle.tickets.specs.declared.Ticket.{Ticket}
-use Rattle.tickets.proofs.Mark.{within_in}
+use Rattle.tickets.proofs.Mark.{among_in}
 use Rattle.tickets.proofs.Held.{held_line}
 use Rattle.tickets.proofs.Opened.{Opened}
 use Rattle.tickets.proofs.Reached.{Reached, cases, in_range}
@@ -38,7 +38,7 @@ module _ (w h ck rk : ℕ) (residuals scratch output : List ℤ) (o : Opened w h
   n = line_length w h b.row
 
   abbrev short : Bool
-  short = is_short b.lines n (length room)
+  short = is_short b.count n (length room)
 
   abbrev answer : Answer
   answer = answer_to w h (done false) b
@@ -56,27 +56,27 @@ module _ (w h ck rk : ℕ) (residuals scratch output : List ℤ) (o : Opened w h
   -- the lines of an accepted batch, where the buffer that it writes then holds the numbers of the lines covered
   module _ (source target opening : List ℤ) (some : 0 < n) (ls : w * h ≤ length source) (lt : w * h ≤ length target)
       (long : line_count w h b.row * n ≤ length opening)
-      (written : answer ≡ answers b.lines → out_of_range (line_count w h b.row) b.start b.lines ≡ false
+      (written : answer ≡ answers b.count → out_of_range (line_count w h b.row) b.start b.count ≡ false
       → (b.row && not (every w (done false))) ≡ false
       → lines_of t b source target ≡ held n (then b.row) (number_at w h ck rk residuals b.row) opening) where
     unless : (x : Bool) → answer_unless x t b (length source) (length target) ≡ cond x (refuses 3) answer
     unless x = answer_is w h ck rk residuals scratch output o reached b x (length source) (length target) ls lt
 
-    number_is : answer ≡ answers b.lines → out_of_range (line_count w h b.row) b.start b.lines ≡ false
-        → (b.row && not (every w (done false))) ≡ false → (p : ℕ) → p < b.lines * n
+    number_is : answer ≡ answers b.count → out_of_range (line_count w h b.row) b.start b.count ≡ false
+        → (b.row && not (every w (done false))) ≡ false → (p : ℕ) → p < b.count * n
         → get_or (batch t b source target).buffer (b.start * n + p) (pos 0) ≡ number_at w h ck rk residuals b.row (b.start + p / n) (p % n)
     number_is e r q p l =
-        let few : p / n < b.lines = (div-lt_iff_lt-mul some).1 l in
-        let end = (in_range (line_count w h b.row) b.start b.lines r).end in
+        let few : p / n < b.count = (div-lt_iff_lt-mul some).1 l in
+        let end = (in_range (line_count w h b.row) b.start b.count r).end in
         let j = b.start + p / n in
         let at : b.start * n + p ≡ j * n + p % n = omega (arith, add-mul b.start (p / n) n, div-add-mod' p n) in
         let in_list : b.start * n + p < length opening =
-        omega (arith, long, add-mul b.start b.lines n, mul-le-mul_right n end) in
+        omega (arith, long, add-mul b.start b.count n, mul-le-mul_right n end) in
         ap (λ (d : List ℤ). get_or d (b.start * n + p) (pos 0)) (ran t b source target (sym (unless false ∙ e)) ∙ written e r q)
         ∙ ap (λ (k : ℕ). get_or (held n (then b.row) (number_at w h ck rk residuals b.row) opening) k (pos 0)) at
         ∙ held_line n (then b.row) (number_at w h ck rk residuals b.row) opening j (p % n) (mod-lt p some) (omega (arith, at))
         (sym (own w h ck rk residuals scratch output o reached b b.row refl e j)
-        ∙ ap (λ (x : Bool). done b.row j || x) (within_in b.start b.lines j (omega arith) (omega arith))
+        ∙ ap (λ (x : Bool). done b.row j || x) (among_in b.start b.count j (omega arith) (omega arith))
         ∙ or-true (done b.row j))
 
     shown_same : after (cond short (refuses 3) answer) (lines_shown t b source target room) room
@@ -88,7 +88,7 @@ module _ (w h ck rk : ℕ) (residuals scratch output : List ℤ) (o : Opened w h
         (λ s.
         rw s
         (⊎_elim
-        (λ x. rw x.0 (laid_ext room 0 (b.lines * n) _ _ (number_is x.0 x.1 x.2)))
+        (λ x. rw x.0 (laid_ext room 0 (b.count * n) _ _ (number_is x.0 x.1 x.2)))
         (λ r. rw r.is)
         (cases w h (done false) b)))
         (decided short)

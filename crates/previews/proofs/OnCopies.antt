@@ -38,37 +38,37 @@ module _ (t : Ticket) (b : Batch) (source target room : List ℤ) where
   abbrev shown : List ℤ
   shown = after answer (lines_shown t b source target room) room
 
-  by_buffer : {s : Bool} → is_short b.lines side (length room) ≡ s → answer ≡ answer_unless s t b (length source) (length target)
+  by_buffer : {s : Bool} → is_short b.count side (length room) ≡ s → answer ≡ answer_unless s t b (length source) (length target)
   by_buffer e = ap (λ (s : Bool). answer_unless s t b (length source) (length target)) e
 
   short_answer : answer_unless true t b (length source) (length target) ≡ short_too (answer_unless false t b (length source) (length target))
   unfolding answer_unless
-  short_answer = short_too_lem _ _ _ _ _ b.lines
+  short_answer = short_too_lem _ _ _ _ _ b.count
 
   shown_is : {m : ℕ} → answer ≡ answers m → shown ≡ lines_shown t b source target room
   shown_is e = rw e
 
-  room_long : {m : ℕ} → answer ≡ answers m → b.lines * side ≤ length room
+  room_long : {m : ℕ} → answer ≡ answers m → b.count * side ≤ length room
   room_long {m} e = (accepted t b (length source) (length target) (length room) m (sym e)).long
 
-  line_is : {m : ℕ} (i f : ℕ) → answer ≡ answers m → i < b.lines → f < side
+  line_is : {m : ℕ} (i f : ℕ) → answer ≡ answers m → i < b.count → f < side
       → get_or shown (i * side + f) (pos 0) ≡ get_or (batch t b source target).buffer ((b.start + i) * side + f) (pos 0)
   line_is i f e bi bf =
       ap (λ (d : List ℤ). get_or d (i * side + f) (pos 0)) (shown_is e)
       ∙ ap (λ (q : ℕ). get_or (lines_shown t b source target room) q (pos 0)) (sym (zero-add (i * side + f)))
-      ∙ laid_at room 0 (b.lines * side) _ (omega (arith, room_long e)) (i * side + f) (pos 0) (digits_lt bi bf)
+      ∙ laid_at room 0 (b.count * side) _ (omega (arith, room_long e)) (i * side + f) (pos 0) (digits_lt bi bf)
       ∙ ap (λ (q : ℕ). get_or (batch t b source target).buffer q (pos 0)) (omega (arith, add-mul b.start i side))
 
-  rest_is : {m : ℕ} (p : ℕ) → answer ≡ answers m → b.lines * side ≤ p → get_or shown p (pos 0) ≡ get_or room p (pos 0)
+  rest_is : {m : ℕ} (p : ℕ) → answer ≡ answers m → b.count * side ≤ p → get_or shown p (pos 0) ≡ get_or room p (pos 0)
   rest_is p e past =
-      let at : p ≡ 0 + b.lines * side + (p - b.lines * side) = omega arith in
+      let at : p ≡ 0 + b.count * side + (p - b.count * side) = omega arith in
       ap (λ (d : List ℤ). get_or d p (pos 0)) (shown_is e)
       ∙ ap (λ (q : ℕ). get_or (lines_shown t b source target room) q (pos 0)) at
-      ∙ laid_after room 0 (b.lines * side) _ (omega (arith, room_long e)) (p - b.lines * side) (pos 0)
+      ∙ laid_after room 0 (b.count * side) _ (omega (arith, room_long e)) (p - b.count * side) (pos 0)
       ∙ ap (λ (q : ℕ). get_or room q (pos 0)) (sym at)
 
   shown_long : (a : Answer) → answer ≡ a → length shown ≡ length room
-  shown_long (answers m) e = ap length (shown_is e) ∙ length_laid room 0 (b.lines * side) _ (omega (arith, room_long e))
+  shown_long (answers m) e = ap length (shown_is e) ∙ length_laid room 0 (b.count * side) _ (omega (arith, room_long e))
   shown_long (refuses k) e = ap (λ (a : Answer). length (after a (lines_shown t b source target room) room)) e
 
   beside_batch : BesideBatch t b source target room

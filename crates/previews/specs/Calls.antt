@@ -46,7 +46,7 @@ state_after residuals s cs (suc i) = (turn residuals (state_after residuals s cs
 
 -- what each call of a list gives back and shows, the ticket after it, and what the whole list leaves
 pub record Run : Type 0 where
-  pub answers : List Answer
+  pub answered : List Answer
   pub shown : List (List ℤ)
   pub tickets : List Ticket
   pub state : State
@@ -54,7 +54,7 @@ pub record Run : Type 0 where
 unfoldable pub run : List ℤ → State → List Call → Run
 run residuals s cs =
     record {
-      answers = tab (length cs) (λ i. (turn residuals (state_after residuals s cs i) (nth cs i)).answer);
+      answered = tab (length cs) (λ i. (turn residuals (state_after residuals s cs i) (nth cs i)).answer);
       shown = tab (length cs) (λ i. (turn residuals (state_after residuals s cs i) (nth cs i)).shown);
       tickets = tab (length cs) (λ i. (state_after residuals s cs (suc i)).ticket);
       state = state_after residuals s cs (length cs);

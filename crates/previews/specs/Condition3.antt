@@ -10,7 +10,7 @@ use Rattle.tickets.specs.Run as batches
 use Rattle.tickets.specs.Run.{State, state_at}
 use Rattle.tickets.specs.Condition3 as alone
 use Rattle.tickets.specs.Condition3.{answer_to, covered_with, ticket_of, number_at, state_of}
-use Rattle.tickets.specs.Reading.{Reading}
+use Rattle.tickets.specs.ByPlace.{ByPlace}
 use Rattle.previews.specs.Preview.{is_short}
 use Rattle.previews.specs.Calls.{Call, runs, looks, Run, nth, run}
 
@@ -28,7 +28,7 @@ covered w h cs (suc i) row j = covered_next w h (covered w h cs i) (nth cs i) ro
 -- column line j
 abbrev pub answer_to_preview : ℕ → ℕ → (ℕ → Bool) → Batch → ℕ → Answer
 answer_to_preview w h done b room =
-    cond (is_short b.lines (line_length w h b.row) room) (refuses 3) (answer_to w h done b)
+    cond (is_short b.count (line_length w h b.row) room) (refuses 3) (answer_to w h done b)
 
 abbrev pub answer_to_call : ℕ → ℕ → (ℕ → Bool) → Call → Answer
 answer_to_call w h done (runs b) = answer_to w h done b
@@ -38,7 +38,7 @@ answer_to_call w h done (looks b room) = answer_to_preview w h done b (length ro
 abbrev pub with_lines_of : ℕ → ℕ → ℕ → ℕ → List ℤ → Batch → List ℤ → List ℤ
 with_lines_of w h ck rk residuals b room =
     let n = line_length w h b.row in
-    laid room 0 (b.lines * n) (λ p. number_at w h ck rk residuals b.row (b.start + p / n) (p % n))
+    laid room 0 (b.count * n) (λ p. number_at w h ck rk residuals b.row (b.start + p / n) (p % n))
 
 abbrev pub shown_by : ℕ → ℕ → ℕ → ℕ → List ℤ → (ℕ → Bool) → Call → List ℤ
 shown_by w h ck rk residuals done (runs b) = []
@@ -49,7 +49,7 @@ shown_by w h ck rk residuals done (looks b room) =
 unfoldable pub settled : ℕ → ℕ → ℕ → ℕ → List ℤ → List ℤ → List ℤ → List Call → Run
 settled w h ck rk residuals scratch output cs =
     record {
-      answers = tab (length cs) (λ i. answer_to_call w h (covered w h cs i false) (nth cs i));
+      answered = tab (length cs) (λ i. answer_to_call w h (covered w h cs i false) (nth cs i));
       shown = tab (length cs) (λ i. shown_by w h ck rk residuals (covered w h cs i false) (nth cs i));
       tickets = tab (length cs) (λ i. ticket_of w h ck rk (covered w h cs (suc i)));
       state = state_of w h ck rk residuals scratch output (covered w h cs (length cs));
@@ -66,12 +66,12 @@ abbrev pub PlaceByPlace : Type 0
 PlaceByPlace =
     (w h ck rk : ℕ) (residuals scratch output : List ℤ) → open_answer w h ck rk residuals (length scratch) (length output) ≡ answers 0
     → (cs : List Call)
-    → Reading w h ck rk residuals scratch output (covered w h cs (length cs)) (run residuals (state_at (new_ticket w h ck rk) scratch output) cs).state
+    → ByPlace w h ck rk residuals scratch output (covered w h cs (length cs)) (run residuals (state_at (new_ticket w h ck rk) scratch output) cs).state
 
 -- a run of batches, in which nothing is shown
 abbrev pub showing_nothing : batches.Run → Run
 showing_nothing r =
-    record { answers = r.answers; shown = tab (length r.answers) (λ i. []); tickets = r.tickets; state = r.state }
+    record { answered = r.answered; shown = tab (length r.answered) (λ i. []); tickets = r.tickets; state = r.state }
 
 -- every list of batches alone is run, and settled, as document 01's condition 3 has it
 abbrev pub BatchesAlone : Type 0

@@ -21,10 +21,10 @@ fn line_length(t: Ticket, row: bool) -> usize
 #[inline(always)]
 #[tactic(auto, unfolding(crate::specs::Preview::is_short), using(laws::proofs::Divide::ltb_div))]
 fn is_short(t: Ticket, b: Batch, room: usize) -> bool
-    ensures { result ≡ is_short b.lines (line_length t.w t.h b.row) room }
+    ensures { result ≡ is_short b.count (line_length t.w t.h b.row) room }
 {
     let side = line_length(t, b.row);
-    match b.lines {
+    match b.count {
         1 => room < side,
         4 => room / 4 < side,
         8 => room / 8 < side,
@@ -47,6 +47,6 @@ pub fn preview(
     let short = is_short(ticket, b, preview.len());
     let shape = tickets::admit(short, ticket, b, source.len(), target.len())?;
     let from = &source[b.start..];
-    shape.lines(b.row, 0, b.lines, from, preview);
-    Ok(b.lines)
+    shape.lines(b.row, 0, b.count, from, preview);
+    Ok(b.count)
 }

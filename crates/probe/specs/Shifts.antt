@@ -1,4 +1,4 @@
--- The two shifts of a size as one number.
+-- The two shifts of a size as one number. No public contract mentions it.
 use Rattle.std.specs.Prelude.{cond, ◌&&◌, ℕ, ◌+◌, ◌*◌}
 use Rattle.sizes.specs.Size.{is_side}
 use Rattle.sizes.specs.Shift.{first_shift, second_shift}

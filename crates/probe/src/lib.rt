@@ -6,7 +6,7 @@ ghost use Rattle.std.specs.Prelude.{◌≡◌, length};
 ghost use Rattle.kernels.specs.Adst.{adst16, adst4, adst8};
 ghost use Rattle.kernels.specs.Dct.{dct32, dct_rows};
 ghost use Rattle.answer.specs.Answer.{signed_of, told};
-ghost use Rattle.passes.specs.Answer.{pass_answer, pass_after};
+ghost use Rattle.passes.specs.Call.{pass_answer, pass_after};
 ghost use Rattle.probe.specs.Lanes.{lanes_answer, lanes_after};
 ghost use Rattle.probe.specs.Shifts.{shift_pair};
 
@@ -92,46 +92,46 @@ pub extern "C" fn probe_plain(
     answer::signed(passes::plain(side, kind, shift, lines, src, dst))
 }
 
-// The lane pass: lines lines from start on, out of line lines. It answers the number of lines.
+// The lane pass: count lines from start on, of a pass of this many lines. It answers the count.
 #[unsafe(no_mangle)]
 pub extern "C" fn probe_lanes(
     side: usize,
     kind: u32,
     shift: i32,
-    line: usize,
-    start: usize,
     lines: usize,
+    start: usize,
+    count: usize,
     src: &[i32],
     dst: &mut [i32],
 ) -> i64
-    ensures value { result ≡ signed_of (lanes_answer side kind shift line start lines (length src.now) (length dst.old)) }
-    ensures dst_after { dst.new ≡ lanes_after side kind shift line start lines src.now dst.old }
+    ensures value { result ≡ signed_of (lanes_answer side kind shift lines start count (length src.now) (length dst.old)) }
+    ensures dst_after { dst.new ≡ lanes_after side kind shift lines start count src.now dst.old }
 {
-    answer::signed(run_lanes(side, kind, shift, line, start, lines, src, dst))
+    answer::signed(run_lanes(side, kind, shift, lines, start, count, src, dst))
 }
 
 fn run_lanes(
     side: usize,
     kind: u32,
     shift: i32,
-    line: usize,
-    start: usize,
     lines: usize,
+    start: usize,
+    count: usize,
     src: &[i32],
     dst: &mut [i32],
 ) -> Outcome
-    ensures result_value { told result ≡ lanes_answer side kind shift line start lines (length src.now) (length dst.old) }
-    ensures dst_after { dst.new ≡ lanes_after side kind shift line start lines src.now dst.old }
+    ensures result_value { told result ≡ lanes_answer side kind shift lines start count (length src.now) (length dst.old) }
+    ensures dst_after { dst.new ≡ lanes_after side kind shift lines start count src.now dst.old }
 {
-    let pass = passes::admit(side, kind, shift, line, src.len(), dst.len())?;
-    if lines::ends_past(line, start, lines) {
+    let pass = passes::admit(side, kind, shift, lines, src.len(), dst.len())?;
+    if sizes::ends_past(lines, start, count) {
         return Err(Refusal::BatchRange);
     }
     let source = Source {
         numbers: src,
-        lines: line,
+        lines,
         shift: pass.shift,
     };
-    lanes::run(side, pass.kind, &source, start, lines, dst);
-    Ok(lines)
+    lanes::run(side, pass.kind, &source, start, count, dst);
+    Ok(count)
 }

@@ -1,7 +1,7 @@
 -- A value compared with a power of two, and what a test of the order says of two fractions. Assumes nothing.
 use mathlib.Core.Path.{◌≡◌, refl, sym, ap, ◌∙◌, subst}
 use mathlib.Core.Logic.{⊎_elim}
-use mathlib.Core.Bool.{Bool, true, false, ◌&&◌, ◌||◌, true≢false, false≢true}
+use mathlib.Core.Bool.{Bool, true, false, or-true, ◌&&◌, ◌||◌, true≢false, false≢true}
 use Prim.Native.Nat.{ℕ, ◌*◌, ◌^◌, ◌≤◌, ◌<◌}
 use native.Mathlib.Nat.{eq-or-lt_of_le, le_of_lt, le_of_eq, lt_of_not-le, not-le_of_lt, mul-one, one-mul, zero-lt-suc}
 use native.Mathlib.Omega.{arith}
@@ -11,7 +11,7 @@ use lib.Ieee.{Float, nan, inf, fin, up, down, lt, le}
 use lib.Ieee.Exact.{HasValue}
 use lib.Ieee.Fits.{down_pos}
 use lib.Ieee.Order.{transfer}
-use Rattle.quant.specs.Float.{plain}
+use Rattle.quant.specs.Float.{has_no_sign}
 use borrow.Author.Tests.{ltb-true, ltb-false, eqb-true, eqb-false, lt-ltb, eq-eqb}
 
 -- a test of ≤, as `le` has it of two fractions of the same sign
@@ -36,11 +36,7 @@ le_false p q = go (ltb p q) (eqb p q) (ltb-false p q) (eqb-false p q)
 
 le_yes : (p q : ℕ) → p ≤ q → le_test p q ≡ true
 le_yes p q h =
-    ⊎_elim (λ e. ap (λ (t : Bool). ltb p q || (t && true)) (eq-eqb p q e) ∙ or_true (ltb p q)) (λ l. ap (λ (t : Bool). t || (eqb p q && true)) (lt-ltb p q l)) (eq-or-lt_of_le h)
-  where
-    or_true : (t : Bool) → (t || (true && true)) ≡ true
-    or_true true = refl
-    or_true false = refl
+    ⊎_elim (λ e. ap (λ (t : Bool). ltb p q || (t && true)) (eq-eqb p q e) ∙ or-true (ltb p q)) (λ l. ap (λ (t : Bool). t || (eqb p q && true)) (lt-ltb p q l)) (eq-or-lt_of_le h)
 
 -- where a value without a sign equals one with a sign, both are zero
 pub level_zero : (A B : ℕ) → (eqb A B && (false || eqb A 0)) ≡ true → (A ≡ 0) × (B ≡ 0)
@@ -52,7 +48,7 @@ level_zero A B = go (eqb A B) (eqb A 0) (eqb-true A B) (eqb-true A 0)
     go false b f g e = absurd (false≢true e)
 
 -- what is not below 2 ^ k reaches it
-pub not_below : (k : ℕ) (x : Float) → T (plain x) → lt x (fin false 1 (pos k)) ≡ false → le (fin false 1 (pos k)) x ≡ true
+pub not_below : (k : ℕ) (x : Float) → T (has_no_sign x) → lt x (fin false 1 (pos k)) ≡ false → le (fin false 1 (pos k)) x ≡ true
 unfolding lt le
 not_below k nan p e = absurd p
 not_below k (inf true) p e = absurd p

@@ -15,10 +15,10 @@ use lib.Ieee.Bits.{of_bits-to_bits, of_bits-fits, nan_bits_is}
 use lib.Ieee.Exact.{HasValue}
 use lib.Ieee.Fits.{of_int-fits}
 use lib.Ieee.Scale.{finite}
-use Rattle.quant.specs.Float.{one32, half32, plain, negative, half_up, round_of}
+use Rattle.quant.specs.Float.{one32, half32, has_no_sign, negative, half_up, round_of}
 use Rattle.quant.proofs.Compare.{reaches, falls_short, not_below}
 use Rattle.quant.proofs.Pattern.{sign_bit, field, digits, normal, subnormal, finite_field}
-use Rattle.quant.proofs.Rounding.{plain_no_nan, below_one, round_at, cancel, int_value}
+use Rattle.quant.proofs.Rounding.{no_sign_no_nan, below_one, round_at, cancel, int_value}
 
 -- what the code computes: the ones' place, and the pattern
 abbrev pub ones : ℕ → ℕ
@@ -179,21 +179,21 @@ module _ (b : ℕ) (lo : 127 ≤ field b) (hi : field b ≤ 149) where
 
 -- ---- a value from 1 to 2 ^ 23
 
-plain_sign : (y : Float) → T (plain y) → negative y ≡ false
-plain_sign nan p = refl
-plain_sign (inf true) p = absurd p
-plain_sign (inf false) p = refl
-plain_sign (fin true m e) p = absurd p
-plain_sign (fin false m e) p = refl
+no_sign_clear : (y : Float) → T (has_no_sign y) → negative y ≡ false
+no_sign_clear nan p = refl
+no_sign_clear (inf true) p = absurd p
+no_sign_clear (inf false) p = refl
+no_sign_clear (fin true m e) p = absurd p
+no_sign_clear (fin false m e) p = refl
 
-finite_below : (y : Float) → T (plain y) → le (fin false 1 (pos 23)) y ≡ false → T (finite y)
+finite_below : (y : Float) → T (has_no_sign y) → le (fin false 1 (pos 23)) y ≡ false → T (finite y)
 unfolding le
 finite_below nan p h = p
 finite_below (inf true) p h = p
 finite_below (inf false) p h = true≢false h
 finite_below (fin s m e) p h = tt
 
-module _ (y : Float) (f : T (fits binary32 y)) (p : T (plain y)) (lo : le one32 y ≡ true) (hi : le (fin false 1 (pos 23)) y ≡ false) where
+module _ (y : Float) (f : T (fits binary32 y)) (p : T (has_no_sign y)) (lo : le one32 y ≡ true) (hi : le (fin false 1 (pos 23)) y ≡ false) where
   abbrev b : ℕ
   b = to_bits binary32 y
 
@@ -201,7 +201,7 @@ module _ (y : Float) (f : T (fits binary32 y)) (p : T (plain y)) (lo : le one32 
   is = of_bits-to_bits binary32 y f
 
   clear_bit : b < 2147483648
-  clear_bit = leb-false 2147483648 b (sign_bit y f (plain_no_nan y p) ∙ plain_sign y p)
+  clear_bit = leb-false 2147483648 b (sign_bit y f (no_sign_no_nan y p) ∙ no_sign_clear y p)
 
   under_top : field b < 255
   under_top = finite_field b clear_bit (subst (λ (x : Float). T (finite x)) (sym is) (finite_below y p hi))
@@ -243,12 +243,12 @@ module _ (y : Float) (f : T (fits binary32 y)) (p : T (plain y)) (lo : le one32 
 
 pub record Raised (x y : Float) : Type 0 where
   pub held : T (fits binary32 y)
-  pub no_sign : T (plain y)
+  pub no_sign : T (has_no_sign y)
   pub from_one : le one32 y ≡ true
   pub below_top : le (fin false 1 (pos 23)) y ≡ false
   pub same : round_of y ≡ round_of x
 
-pub raised : (x : Float) → T (fits binary32 x) → T (plain x) → lt x half32 ≡ false → le (fin false 1 (pos 23)) x ≡ false → Raised x (cond (lt x one32) one32 x)
+pub raised : (x : Float) → T (fits binary32 x) → T (has_no_sign x) → lt x half32 ≡ false → le (fin false 1 (pos 23)) x ≡ false → Raised x (cond (lt x one32) one32 x)
 unfolding fits le
 raised x f p lo hi = go (lt x one32) refl
   where

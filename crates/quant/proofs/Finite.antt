@@ -1,19 +1,19 @@
 -- No magnitude and no level is a NaN or an infinity, whatever settings, step and coefficient are accepted; and zero stays zero under all of
 -- them, the smallest step too. So it is of every number that an accepted call writes. Assumes nothing.
 use mathlib.Core.Path.{◌≡◌, refl, sym, subst}
-use mathlib.Core.Bool.{Bool, true, false, not, cond}
-use mathlib.Core.List.{List, [], ◌∷◌}
+use mathlib.Core.Bool.{Bool, true, false, cond}
+use mathlib.Core.List.{List}
 use Prim.Native.Nat.{ℕ, ◌<◌, ◌≤◌}
 use lib.Dec.{T}
 use lib.IntN.{ℤ}
 use lib.Ieee.{Float}
 use lib.Ieee.Scale.{finite}
 use lib.ListN.{length, get_or}
-use Rattle.answer.specs.Answer.{Answer, answers, lowest, after}
+use Rattle.answer.specs.Answer.{Answer, answers, after}
 use Rattle.laws.proofs.Filled.{front_at}
 use Rattle.quant.specs.Finite.{AlwaysFinite, ZeroStays, ScanFinite, AllFinite, OneFinite}
 use Rattle.quant.specs.Level.{magnitude_at, level_at}
-use Rattle.quant.specs.Place.{kept, dropped, is_kept, place_of, unless, one_answer}
+use Rattle.quant.specs.Place.{refused, kept, dropped, is_kept, place_of, one_answer}
 use Rattle.quant.specs.Scan.{named_at, scan_answer, scanned, levels_after, magnitudes_after}
 use Rattle.quant.specs.Settings.{settings_ok, coefficient_ok}
 use Rattle.quant.specs.declared.Settings.{Settings}
@@ -48,13 +48,13 @@ module _ (width step : ℕ) (s : Settings) (coefficients : List ℤ) (scan : Lis
   pub levels_finite : (i : ℕ) → i < length scan → (z : Float) → T (finite (get_or (levels_after width step s coefficients scan levels magnitudes) i z))
   unfolding levels_after
   levels_finite =
-      let c = (accepted k m done).on_card in
+      let c = (accepted k m done).first in
       finite_at k (level_at s step) (λ z ok. (always_finite s step z c.fine ok).1) m done levels c.levels_room
 
   pub magnitudes_finite : (i : ℕ) → i < length scan → (z : Float) → T (finite (get_or (magnitudes_after width step s coefficients scan levels magnitudes) i z))
   unfolding magnitudes_after
   magnitudes_finite =
-      let c = (accepted k m done).on_card in
+      let c = (accepted k m done).first in
       finite_at k (magnitude_at s step) (λ z ok. (always_finite s step z c.fine ok).0) m done magnitudes c.magnitudes_room
 
 pub scan_finite : ScanFinite
@@ -66,7 +66,7 @@ scan_finite width step s coefficients scan levels magnitudes m done = (
 -- ---- and every number of the answer for one place
 
 pub one_finite : OneFinite
-unfolding one_answer place_of lowest
+unfolding one_answer place_of
 one_finite s step c = tested (settings_ok s step) (coefficient_ok c) (always_finite s step c)
   where
     place : T (finite (magnitude_at s step c)) × T (finite (level_at s step c)) → AllFinite (place_of s step c)
@@ -77,7 +77,7 @@ one_finite s step c = tested (settings_ok s step) (coefficient_ok c) (always_fin
         go false = f.0
 
     tested : (a b : Bool) → (a ≡ true → b ≡ true → T (finite (magnitude_at s step c)) × T (finite (level_at s step c)))
-        → AllFinite (unless (lowest ((not a, 7) ∷ (not b, 9) ∷ []) 1) (place_of s step c))
+        → AllFinite (cond a (cond b (place_of s step c) (refused 9)) (refused 7))
     tested false b f = tt
     tested true false f = tt
     tested true true f = place (f refl refl)

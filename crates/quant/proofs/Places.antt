@@ -1,12 +1,12 @@
--- The places that a scan means, and whether one is lost. Assumes nothing.
+-- The places that a scan means, and whether one isn't in the buffer. Assumes nothing.
 use mathlib.Core.Path.{◌≡◌, refl, sym, ap, ap₂, ◌∙◌, subst}
-use mathlib.Core.Bool.{Bool, true, false, not, cond}
+use mathlib.Core.Bool.{Bool, true, false, not, not-not, cond}
 use mathlib.Core.List.{List}
 use Prim.Native.Nat.{ℕ, ◌+◌, ◌*◌, ◌/◌, ◌%◌, ◌≤◌, ◌<◌}
 use native.Mathlib.Nat.{mul-le-mul}
 use native.Mathlib.Omega.{arith}
-use borrow.Author.Tests.{lt-ltb, le-ltb, leb-false}
-use lib.Dec.{T, ltb, leb, ltb→lt}
+use borrow.Author.Tests.{lt-ltb, le-ltb, ltb-true, leb-false}
+use lib.Dec.{ltb, leb}
 use lib.IntN.{ℤ, pos}
 use lib.ListN.{length, get_or}
 use mir.Syntax.{w16}
@@ -14,10 +14,9 @@ use mir.Val.{Fits}
 use Rattle.laws.specs.Store.{laid}
 use Rattle.laws.specs.Table.{every}
 use Rattle.laws.proofs.Filled.{front_at}
-use Rattle.laws.proofs.Every.{every_same}
+use Rattle.laws.proofs.Every.{every_each, every_same}
 use Rattle.laws.proofs.Laid.{laid_ext}
-use Rattle.laws.proofs.Table.{every_at}
-use Rattle.quant.specs.Scan.{is_by_width, meant, place_at, named_at, is_lost}
+use Rattle.quant.specs.Scan.{is_by_width, meant, place_at, named_at, is_bad_scan}
 
 -- the largest place of a stride of 32
 stride_small : (rc width : ℕ) → rc < 65536 → width ≤ 32 → rc % 32 * width + rc / 32 < 65536
@@ -43,28 +42,24 @@ module _ (width : ℕ) (coefficients : List ℤ) (scan : List ℕ) where
   abbrev room : ℕ
   room = length coefficients
 
-  abbrev lost : Bool
-  lost = is_lost width room scan
+  abbrev bad_scan : Bool
+  bad_scan = is_bad_scan width room scan
 
   abbrev found : Bool
   found = every n (λ i. ltb (place_at width scan i) room)
 
-  pub too_long : 1024 < n → not lost ≡ false
-  unfolding is_lost
+  pub too_long : 1024 < n → not bad_scan ≡ false
+  unfolding is_bad_scan
   too_long h = rw (lt-ltb 1024 n h)
 
-  short_enough : n ≤ 1024 → not lost ≡ found
-  unfolding is_lost
-  short_enough h = rw (le-ltb 1024 n h) (twice found)
-    where
-      twice : (t : Bool) → not (not t) ≡ t
-      twice true = refl
-      twice false = refl
+  short_enough : n ≤ 1024 → not bad_scan ≡ found
+  unfolding is_bad_scan
+  short_enough h = rw (le-ltb 1024 n h) (not-not found)
 
   -- the places as a list, and whether every one was found
   pub record Placed (places : List ℕ) (r : Bool) : Type 0 where
-    pub tested : r ≡ not lost
-    pub below : not lost ≡ true → (i : ℕ) → i < n → get_or places i 0 < room
+    pub tested : r ≡ not bad_scan
+    pub below : not bad_scan ≡ true → (i : ℕ) → i < n → get_or places i 0 < room
     pub gathers : (old new : List ℤ) (m : ℕ) → m ≡ n → new ≡ laid old 0 m (λ i. get_or coefficients (get_or places i 0) (pos 0)) → new ≡ laid old 0 n (named_at width coefficients scan)
 
   -- as the code has it: how places are read, how far they may reach, the places over old ones, and whether each is below the limit
@@ -81,7 +76,7 @@ module _ (width : ℕ) (coefficients : List ℤ) (scan : List ℕ) where
         ∙ front_at old n (λ i. meant direct wide (get_or scan i 0)) 0 (omega arith) i b
         ∙ meant_is (get_or scan i 0)
 
-    all_found : ((i : ℕ) → Fits w16 (get_or scan i 0)) → limit ≡ cond (leb room 65536) room 65536 → r ≡ not lost
+    all_found : ((i : ℕ) → Fits w16 (get_or scan i 0)) → limit ≡ cond (leb room 65536) room 65536 → r ≡ not bad_scan
     unfolding place_at
     all_found h e =
         t
@@ -90,10 +85,10 @@ module _ (width : ℕ) (coefficients : List ℤ) (scan : List ℕ) where
         ∙ below_reach (meant (is_by_width width scan) width (get_or scan i 0)) room (meant_small (is_by_width width scan) width (get_or scan i 0) (h i).fits asked.0))
         ∙ sym (short_enough asked.1)
 
-    place_below : not lost ≡ true → (i : ℕ) → i < n → get_or places i 0 < room
+    place_below : not bad_scan ≡ true → (i : ℕ) → i < n → get_or places i 0 < room
     place_below e i b =
         subst (λ (p : ℕ). p < room) (sym (place_is i b))
-        (ltb→lt (place_at width scan i) room (every_at n (λ i. ltb (place_at width scan i) room) (subst T (sym (sym (short_enough asked.1) ∙ e)) tt) i b))
+        (ltb-true (place_at width scan i) room (every_each n (λ i. ltb (place_at width scan i) room) (sym (short_enough asked.1) ∙ e) i b))
 
     gathered : (old new : List ℤ) (m : ℕ) → m ≡ n → new ≡ laid old 0 m (λ i. get_or coefficients (get_or places i 0) (pos 0)) → new ≡ laid old 0 n (named_at width coefficients scan)
     unfolding named_at

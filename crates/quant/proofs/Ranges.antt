@@ -3,12 +3,11 @@ use mathlib.Core.Path.{◌≡◌, sym, subst}
 use mathlib.Core.Bool.{true, ◌&&◌}
 use Prim.Native.Nat.{ℕ, ◌≤◌, ◌^◌}
 use native.Mathlib.Nat.{le_trans}
-use native.Mathlib.Omega.{arith}
 use lib.Dec.{T, leb, leb→le, le→leb, lt→ltb, lit≤}
 use lib.IntN.{ℤ, pos, negsuc, nat_abs}
 use lib.Ieee.{binary32, in_float}
 use lib.Ieee.Fits.{and_l, and_r}
-use lib.Signed.{le_z}
+use Rattle.fixed.proofs.Within.{within_size}
 use Rattle.quant.specs.Settings.{step_ok, factor_ok, threshold_ok, dead_zone_ok, settings_ok, coefficient_ok}
 use Rattle.quant.specs.declared.Settings.{Settings}
 
@@ -37,8 +36,7 @@ in_range s step e =
 
 pub coefficient_size : (c : ℤ) → coefficient_ok c ≡ true → nat_abs c ≤ 2 ^ 20
 unfolding coefficient_ok
-coefficient_size (pos n) e = leb→le n 1048576 (subst T (sym e) tt)
-coefficient_size (negsuc n) e = omega (arith, leb→le n 1048575 (and_l (leb n 1048575) (le_z (negsuc n) (pos 1048576)) (subst T (sym e) tt)))
+coefficient_size c e = within_size 1048576 c e
 
 -- a whole number of that size is an f32
 pub in_float_lem : (z : ℤ) → nat_abs z ≤ 2 ^ 20 → T (in_float binary32 z)

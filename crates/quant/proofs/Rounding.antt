@@ -13,14 +13,14 @@ use lib.Ieee.Back.{whole_unique, round_whole}
 use lib.Ieee.Exact.{HasValue, round_exact}
 use lib.Ieee.Fits.{down_pos, and_l, and_r, of_int-fits}
 use lib.Ieee.Nearest.{div_same}
-use Rattle.quant.specs.Float.{zero32, one32, half32, plain, half_up, round_of}
+use Rattle.quant.specs.Float.{zero32, one32, half32, has_no_sign, half_up, round_of}
 use Rattle.quant.proofs.Compare.{le_true}
 
-pub plain_no_nan : (x : Float) → T (plain x) → T (not (is_nan x))
+pub no_sign_no_nan : (x : Float) → T (has_no_sign x) → T (not (is_nan x))
 unfolding is_nan
-plain_no_nan nan p = absurd p
-plain_no_nan (inf s) p = tt
-plain_no_nan (fin s m e) p = tt
+no_sign_no_nan nan p = absurd p
+no_sign_no_nan (inf s) p = tt
+no_sign_no_nan (fin s m e) p = tt
 
 -- ---- `round_of` sees only the value
 
@@ -56,7 +56,7 @@ int_zero : of_int binary32 (pos 0) ≡ zero32
 unfolding of_int
 int_zero = refl
 
-pub below_half : (x : Float) → T (plain x) → lt x half32 ≡ true → zero32 ≡ round_of x
+pub below_half : (x : Float) → T (has_no_sign x) → lt x half32 ≡ true → zero32 ≡ round_of x
 unfolding lt round_of
 below_half nan p h = absurd p
 below_half (inf s) p h = absurd (subst (λ (t : Bool). T (not t)) h p)
@@ -66,7 +66,7 @@ below_half (fin false m e) p h =
     let small : m * up e * 2 < 1 * d = ltb-true (m * up e * 2) (1 * d) h in
     sym (ap (λ (n : ℕ). of_int binary32 (pos n)) (div-eq_of_lt (omega (arith, one-mul d))) ∙ int_zero)
 
-pub below_one : (x : Float) → T (plain x) → lt x half32 ≡ false → lt x one32 ≡ true → round_of one32 ≡ round_of x
+pub below_one : (x : Float) → T (has_no_sign x) → lt x half32 ≡ false → lt x one32 ≡ true → round_of one32 ≡ round_of x
 unfolding lt round_of
 below_one nan p h k = absurd p
 below_one (inf s) p h k = absurd (subst (λ (t : Bool). T (not t)) k p)
@@ -134,7 +134,7 @@ small_digits s (suc m) k f =
     let D = ltb (suc m * 1) (2 ^ 128 * 2 ^ suc k) in
     ltb→lt (suc m) (2 ^ 24) (and_r A B (and_l (A && B) C (and_l (A && B && C) D f)))
 
-pub stays : (x : Float) → T (plain x) → T (fits binary32 x) → le (fin false 1 (pos 23)) x ≡ true → x ≡ round_of x
+pub stays : (x : Float) → T (has_no_sign x) → T (fits binary32 x) → le (fin false 1 (pos 23)) x ≡ true → x ≡ round_of x
 unfolding le round_of
 stays nan p f h = absurd p
 stays (inf s) p f h = refl

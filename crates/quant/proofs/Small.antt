@@ -15,7 +15,7 @@ use lib.Ieee.Fits.{round_is, down_pos, and_l, and_r}
 use lib.Ieee.Order.{round_mono}
 use lib.Ieee.Scale.{finite}
 use Rattle.quant.specs.Float.{zero32, abs_of, max0_of, half_up, round_of}
-use Rattle.quant.specs.Settings.{within}
+use Rattle.quant.specs.Settings.{is_between}
 use Rattle.quant.proofs.Compare.{le_test, le_true, level_zero}
 
 abbrev pub Small : ℕ → Float → Type 0
@@ -60,12 +60,6 @@ abs_units s q k = go (ltb (q * 2 ^ k) (2 ^ 277))
 
 pub abs_round : (s : Bool) (a c : ℕ) → abs_of (round binary32 s a c) ≡ round binary32 false a c
 abs_round s a c = ap abs_of (round_is binary32 s a c) ∙ abs_units s _ _ ∙ sym (round_is binary32 false a c)
-
-abs_number : (x : Float) → T (not (is_nan (abs_of x))) → T (not (is_nan x))
-unfolding is_nan
-abs_number nan h = h
-abs_number (inf s) h = tt
-abs_number (fin s m e) h = tt
 
 odd_number : (d : ℕ) (s : Bool) (q k l : ℕ) → T (not (is_nan (odd d s q k l)))
 unfolding odd is_nan
@@ -196,7 +190,7 @@ max_small k x h = go (lt zero32 x)
 
 -- ---- a range: from l * 2 ^ d to n * 2 ^ g, which are not negative
 
-pub range_small : (l : ℕ) (d : ℤ) (n : ℕ) (g : ℤ) (k : ℕ) (x : Float) → n * up g ≤ 2 ^ k * down g → T (within (fin false l d) (fin false n g) x) → Small k x
+pub range_small : (l : ℕ) (d : ℤ) (n : ℕ) (g : ℤ) (k : ℕ) (x : Float) → n * up g ≤ 2 ^ k * down g → T (is_between (fin false l d) (fin false n g) x) → Small k x
 unfolding le
 range_small l d n g k nan h t = and_l false (le nan (fin false n g)) t
 range_small l d n g k (inf true) h t = and_l false (le (inf true) (fin false n g)) t

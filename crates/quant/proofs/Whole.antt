@@ -7,10 +7,10 @@ use lib.ListN.{length}
 use Rattle.answer.specs.Answer.{Answer, answers, after}
 use Rattle.quant.specs.Level.{IsScale, level_by, level_at, magnitude_by, magnitude_at}
 use Rattle.quant.specs.Scan.{named_answer, scanned}
-use Rattle.quant.proofs.Scanned.{Call, by_the_card, answer, by_its_scan}
+use Rattle.quant.proofs.Scanned.{Call, first_answer, answer, by_its_scan}
 
 module _ (k : Call) (width : ℕ) (inverse threshold bias : Float)
-    (is : (width ≡ k.width) × IsScale k.settings k.step inverse threshold bias × (answers (length k.scan) ≡ by_the_card k)) where
+    (is : (width ≡ k.width) × IsScale k.settings k.step inverse threshold bias × (answers (length k.scan) ≡ first_answer k)) where
   its_scan : named_answer width k.coefficients k.scan ≡ answer k
   its_scan = ap (λ (w : ℕ). named_answer w k.coefficients k.scan) is.0 ∙ by_its_scan k (length k.scan) is.2
 

@@ -7,22 +7,22 @@ use lib.IntN.{ℤ, pos}
 use lib.Ieee.{Float, nan, inf, fin, neg, binary32, add, mul, le, lt, is_nan}
 use lib.Ieee.Scale.{finite}
 use Rattle.std.specs.Float.{is_sign_negative}
-use Rattle.quant.specs.Float.{zero32, abs_of, sign_of, max0_of, plain, round_of}
+use Rattle.quant.specs.Float.{zero32, abs_of, sign_of, max0_of, has_no_sign, round_of}
 use Rattle.quant.specs.Level.{product_of, whole_of, level_of, magnitude_at, level_at, IsScale, magnitude_by, level_by}
 use Rattle.quant.specs.Settings.{coefficient_ok}
 use Rattle.quant.proofs.Ranges.{coefficient_size, in_float_lem}
 use Rattle.quant.proofs.Small.{int_finite, product_number}
 use Rattle.quant.specs.declared.Settings.{Settings}
 
-pub max0_plain : (y : Float) → T (plain (max0_of y))
+pub max0_no_sign : (y : Float) → T (has_no_sign (max0_of y))
 unfolding max0_of lt
-max0_plain nan = tt
-max0_plain (inf true) = tt
-max0_plain (inf false) = tt
-max0_plain (fin true m e) = tt
-max0_plain (fin false m e) = go (lt zero32 (fin false m e))
+max0_no_sign nan = tt
+max0_no_sign (inf true) = tt
+max0_no_sign (inf false) = tt
+max0_no_sign (fin true m e) = tt
+max0_no_sign (fin false m e) = go (lt zero32 (fin false m e))
   where
-    go : (b : Bool) → T (plain (cond b (fin false m e) zero32))
+    go : (b : Bool) → T (has_no_sign (cond b (fin false m e) zero32))
     go true = tt
     go false = tt
 

@@ -5,13 +5,14 @@ use lib.Ieee.{Float, nan, inf, fin, binary32, up, down, lt, of_int}
 abbrev pub zero32 : Float
 zero32 = fin false 0 (pos 0)
 
+-- no public contract mentions it
 abbrev pub one32 : Float
 one32 = fin false 1 (pos 0)
 
 abbrev pub half32 : Float
 half32 = fin false 1 (negsuc 0)
 
--- whether the sign's bit is set; a NaN has none here
+-- whether the sign's bit is set; a NaN has none here. No public contract mentions it
 abbrev pub negative : Float → Bool
 negative nan = false
 negative (inf s) = s
@@ -33,17 +34,17 @@ sign_of (fin s m e) = fin s 1 (pos 0)
 unfoldable pub max0_of : Float → Float
 max0_of x = cond (lt zero32 x) x zero32
 
--- no NaN, and the sign's bit clear: from +0.0 up, the infinity counted
-abbrev pub plain : Float → Bool
-plain nan = false
-plain (inf s) = not s
-plain (fin s m e) = not s
+-- no NaN, and the sign's bit clear: from +0.0 up, the infinity counted. No public contract mentions it
+abbrev pub has_no_sign : Float → Bool
+has_no_sign nan = false
+has_no_sign (inf s) = not s
+has_no_sign (fin s m e) = not s
 
 -- the whole number nearest to a / c, half upward: the whole part of a / c + 1 / 2
 abbrev pub half_up : ℕ → ℕ → ℕ
 half_up a c = (2 * a + c) / (2 * c)
 
--- the nearest whole number, half upward, of an x that is `plain`: x is m times 2 ^ e, which is up e / down e. The infinity stays
+-- the nearest whole number, half upward, of an x that is `has_no_sign`: x is m times 2 ^ e, which is up e / down e. The infinity stays
 unfoldable pub round_of : Float → Float
 round_of nan = nan
 round_of (inf s) = inf s

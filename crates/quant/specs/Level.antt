@@ -34,7 +34,7 @@ magnitude_at s step c = abs_of (product_of (inverse_of s step) c)
 unfoldable pub level_at : Settings → ℕ → ℤ → Float
 level_at s step c = level_of s.threshold (bias_of s) (product_of (inverse_of s step) c)
 
--- ---- the same by what settings and step come to
+-- ---- the same by what settings and step come to. No public contract mentions it
 
 -- what they come to
 abbrev pub IsScale : Settings → ℕ → Float → Float → Float → Type 0

@@ -1,7 +1,7 @@
 -- The answer for one place ("One place also has a call of its own").
-use Rattle.std.specs.Prelude.{Bool, cond, not, [], ◌∷◌, ℕ, ℤ, Float, Result, Ok, Err}
+use Rattle.std.specs.Prelude.{Bool, cond, ℕ, ℤ, Float, Result, Ok, Err}
 use Rattle.std.specs.Float.Ieee.{le}
-use Rattle.answer.specs.Answer.{Answer, answers, refuses, number_of, lowest}
+use Rattle.answer.specs.Answer.{number_of}
 use Rattle.quant.specs.Level.{level_at, magnitude_at}
 use Rattle.quant.specs.Settings.{settings_ok, coefficient_ok}
 use Rattle.quant.specs.declared.Settings.{Settings}
@@ -28,12 +28,7 @@ is_kept s step c = le s.threshold (magnitude_at s step c)
 unfoldable pub place_of : Settings → ℕ → ℤ → Said
 place_of s step c = cond (is_kept s step c) (kept (level_at s step c) (magnitude_at s step c)) (dropped (magnitude_at s step c))
 
--- the place where nothing refuses it
-abbrev pub unless : Answer → Said → Said
-unless (answers n) place = place
-unless (refuses k) place = refused k
-
 -- "it refuses 7, then 9"
 unfoldable pub one_answer : Settings → ℕ → ℤ → Said
 one_answer s step c =
-    unless (lowest ((not (settings_ok s step), 7) ∷ (not (coefficient_ok c), 9) ∷ []) 1) (place_of s step c)
+    cond (settings_ok s step) (cond (coefficient_ok c) (place_of s step c) (refused 9)) (refused 7)

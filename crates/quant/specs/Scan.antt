@@ -24,30 +24,30 @@ unfoldable pub named_at : ℕ → List ℤ → List ℕ → ℕ → ℤ
 named_at width coefficients scan i = get_or coefficients (place_at width scan i) (pos 0)
 
 -- number 8: "a scan is longer than 1,024, or a place it means isn't below the length of the lent coefficient buffer"
-unfoldable pub is_lost : ℕ → ℕ → List ℕ → Bool
-is_lost width room scan = ltb 1024 (length scan) || not (every (length scan) (λ i. ltb (place_at width scan i) room))
+unfoldable pub is_bad_scan : ℕ → ℕ → List ℕ → Bool
+is_bad_scan width room scan = ltb 1024 (length scan) || not (every (length scan) (λ i. ltb (place_at width scan i) room))
 
 -- number 9: "a coefficient named by the scan lies outside -1048576 to 1048576"
-unfoldable pub is_dense : ℕ → List ℤ → List ℕ → Bool
-is_dense width coefficients scan = not (every (length scan) (λ i. coefficient_ok (named_at width coefficients scan i)))
+unfoldable pub has_bad_coefficient : ℕ → List ℤ → List ℕ → Bool
+has_bad_coefficient width coefficients scan = not (every (length scan) (λ i. coefficient_ok (named_at width coefficients scan i)))
 
 -- numbers 1, 3 and 7, with a scan of n entries and buffers of the lengths levels and magnitudes
-abbrev pub by_card : ℕ → ℕ → Settings → ℕ → ℕ → ℕ → List (Bool × ℕ)
-by_card width step settings n levels magnitudes =
+abbrev pub first_refusals : ℕ → ℕ → Settings → ℕ → ℕ → ℕ → List (Bool × ℕ)
+first_refusals width step settings n levels magnitudes =
     (not (is_side width), 1) ∷ (ltb levels n || ltb magnitudes n, 3) ∷ (not (settings_ok settings step), 7) ∷ []
 
 -- numbers 8 and 9
-abbrev pub by_scan : ℕ → List ℤ → List ℕ → List (Bool × ℕ)
-by_scan width coefficients scan = (is_lost width (length coefficients) scan, 8) ∷ (is_dense width coefficients scan, 9) ∷ []
+abbrev pub scan_refusals : ℕ → List ℤ → List ℕ → List (Bool × ℕ)
+scan_refusals width coefficients scan = (is_bad_scan width (length coefficients) scan, 8) ∷ (has_bad_coefficient width coefficients scan, 9) ∷ []
 
--- the answer of a call that numbers 1, 3 and 7 don't refuse
+-- the answer of a call that numbers 1, 3 and 7 don't refuse. No public contract mentions it
 unfoldable pub named_answer : ℕ → List ℤ → List ℕ → Answer
-named_answer width coefficients scan = lowest (by_scan width coefficients scan) (length scan)
+named_answer width coefficients scan = lowest (scan_refusals width coefficients scan) (length scan)
 
 -- "answers the scan length; an empty scan answers 0"
 unfoldable pub scan_answer : ℕ → ℕ → Settings → List ℤ → List ℕ → ℕ → ℕ → Answer
 scan_answer width step settings coefficients scan levels magnitudes =
-    lowest (by_card width step settings (length scan) levels magnitudes ++ by_scan width coefficients scan) (length scan)
+    lowest (first_refusals width step settings (length scan) levels magnitudes ++ scan_refusals width coefficients scan) (length scan)
 
 -- "one level and one magnitude per scan entry": a buffer after an accepted call, by what is written for a coefficient
 unfoldable pub scanned : (ℤ → Float) → ℕ → List ℤ → List ℕ → List Float → List Float

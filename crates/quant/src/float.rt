@@ -2,7 +2,7 @@
 ghost use Rattle.std.specs.Prelude.{◌≡◌, cond, T};
 ghost use Rattle.std.specs.Float.{NotNan};
 ghost use Rattle.std.specs.Float.Ieee.{lt};
-ghost use Rattle.quant.specs.Float.{one32, abs_of, sign_of, max0_of, plain, round_of};
+ghost use Rattle.quant.specs.Float.{one32, abs_of, sign_of, max0_of, has_no_sign, round_of};
 
 // x without its sign. `f32::abs` compares twice in place of one bit's test: a scan takes a third longer.
 #[tactic(auto, using(crate::proofs::Written::turned, crate::proofs::Written::unturned))]
@@ -39,7 +39,7 @@ fn at_least_one(x: f32) -> f32
 // In between, a pattern's last digits are the fraction: half of the ones' place is added, and the fraction is cut off. `f32::round` gives the
 // same, and a scan takes twice as long with it.
 pub(crate) fn round_half_up(x: f32) -> f32
-    requires { T (plain x) }
+    requires { T (has_no_sign x) }
     ensures { result ≡ round_of x }
 {
     if x < 0.5 {

@@ -89,7 +89,7 @@ impl Scale {
 }
 
 // One place by itself: 7 where a setting is out of range, then 9 where the coefficient is.
-#[tactic(auto, unfolding(crate::specs::Place::one_answer, crate::specs::Place::place_of, answer::specs::Answer::lowest))]
+#[tactic(auto, unfolding(crate::specs::Place::one_answer, crate::specs::Place::place_of))]
 pub fn quantize_one(settings: Settings, step: u32, coefficient: i32) -> Result<Place, Refusal>
     ensures { said result ≡ one_answer settings step coefficient }
 {

@@ -7,7 +7,7 @@ ghost use Rattle.laws.specs.Store.{laid};
 ghost use Rattle.laws.specs.Table.{every};
 ghost use Rattle.quant.specs.Level.{IsScale, level_by, magnitude_by};
 ghost use Rattle.quant.specs.Settings.{coefficient_ok};
-ghost use Rattle.quant.specs.Scan.{meant, named_at, is_lost, by_card, named_answer, scanned, scan_answer, levels_after, magnitudes_after};
+ghost use Rattle.quant.specs.Scan.{meant, named_at, is_bad_scan, first_refusals, named_answer, scanned, scan_answer, levels_after, magnitudes_after};
 
 use super::Settings;
 use super::level::{Scale, coefficients_ok};
@@ -47,7 +47,7 @@ fn gather(coefficients: &[i32], places: &[u16], named: &mut [i32])
     }
 }
 
-// The coefficients that the scan names, unless one of its places is lost: number 8's rule. Its places are put into places.
+// The coefficients that the scan names, unless one of its places isn't there: number 8's rule. Its places are put into places.
 fn name_coefficients(
     width: usize,
     coefficients: &[i32],
@@ -56,7 +56,7 @@ fn name_coefficients(
     named: &mut [i32],
 ) -> Result<(), Refusal>
     requires { (width ≤ 32) × (length scan.now ≤ 1024) × (length places.old ≡ length scan.now) × (length named.old ≡ length scan.now) }
-    ensures { MatchResult result (λ _. (is_lost width (length coefficients.now) scan.now ≡ false) × (named.new ≡ laid named.old 0 (length scan.now) (named_at width coefficients.now scan.now))) (λ why. (why ≡ ScanRange) × (is_lost width (length coefficients.now) scan.now ≡ true)) }
+    ensures { MatchResult result (λ _. (is_bad_scan width (length coefficients.now) scan.now ≡ false) × (named.new ≡ laid named.old 0 (length scan.now) (named_at width coefficients.now scan.now))) (λ why. (why ≡ ScanRange) × (is_bad_scan width (length coefficients.now) scan.now ≡ true)) }
 {
     let reading = Reading::new(width, scan);
     let limit = reach(coefficients.len());
@@ -100,7 +100,7 @@ impl Quantizer {
         levels: usize,
         magnitudes: usize,
     ) -> Result<Quantizer, Refusal>
-        ensures { MatchResult result (λ q. (q.width ≡ width) × IsScale settings step q.scale.inverse q.scale.threshold q.scale.bias × (answers n ≡ lowest (by_card width step settings n levels magnitudes) n)) (λ why. refuses (number_of why) ≡ lowest (by_card width step settings n levels magnitudes) n) }
+        ensures { MatchResult result (λ q. (q.width ≡ width) × IsScale settings step q.scale.inverse q.scale.threshold q.scale.bias × (answers n ≡ lowest (first_refusals width step settings n levels magnitudes) n)) (λ why. refuses (number_of why) ≡ lowest (first_refusals width step settings n levels magnitudes) n) }
     {
         if !sizes::is_side(width) {
             return Err(Refusal::BadSize);
@@ -140,7 +140,7 @@ impl Quantizer {
 }
 
 // One level and one magnitude for each entry of the scan. A short scan has a small room to work in, which is sooner made.
-#[tactic(auto, using(crate::proofs::Scanned::card_refuses))]
+#[tactic(auto, using(crate::proofs::Scanned::first_refuses))]
 pub fn quantize_to_levels(
     width: usize,
     step: u32,

@@ -12,14 +12,15 @@ use Rattle.laws.proofs.Place.{split}
 use Rattle.laws.proofs.Sum.{sum_of_append, sum_of_more}
 use Rattle.laws.specs.Store.{tab, pasted}
 use Rattle.laws.specs.Sum.{sum_of}
+use Rattle.answer.proofs.Answer.{no_answer}
 use Rattle.answer.specs.Answer.{Answer, answers, refuses}
 use Rattle.laws.specs.Store.{over}
 use Rattle.format.specs.Pieces.{number_at}
 use Rattle.format.specs.Format.{Block, width_in, height_in, places_in, level_in, length_in, block_in, record_answer, Found, blocks, damage, before, found_from, parse}
 use Rattle.look.specs.Look.{area_of, places_of, counted, list_found}
-use Rattle.reader.specs.Reading.{numbers_of, sides_of, levels_of}
+use Rattle.reader.specs.Read.{numbers_of, sides_of, levels_of}
 use Rattle.laws.proofs.Pasted.{pasted_none, pasted_set, pasted_both, length_pasted}
-use Rattle.format.proofs.Parse.{one_more, damaged, found_nothing, length_some}
+use Rattle.format.proofs.Parse.{one_more, damaged, found_nothing, length_some, no_damage}
 use Rattle.format.proofs.Record.{Accepted, accepted}
 
 -- ---- the lists of a list of blocks, one block more
@@ -60,9 +61,6 @@ pub record Next (low : ℕ) (t : List ℕ) (rest : List Block) : Type 0 where
   pub first : rest ≡ block_in t ∷ later
   pub ok : Accepted low t
   pub on : found_from (number_at t 0 + 1) 0 (drop (length_in t) t) ≡ blocks later
-
-no_damage : {X : Type 0} {k : ℕ} {bs : List Block} → damage k ≡ blocks bs → X
-no_damage e = absurd (let z : ◌≡◌ {A = ℕ} 0 1 = cc in omega arith)
 
 next_of : (low : ℕ) (t : List ℕ) (rest : List Block) → Accepted low t → (f : Found) → found_from (number_at t 0 + 1) 0 (drop (length_in t) t) ≡ f
     → before (block_in t) f ≡ blocks rest → Next low t rest
@@ -123,7 +121,7 @@ filling_none s numbers sides levels n e = from (found_from 0 0 s) refl e
           sides_are = pasted_none sides 0;
           levels_are = pasted_none levels 0;
         }
-    from (damage k) u e = absurd (let z : ◌≡◌ {A = ℕ} 0 1 = cc in omega arith)
+    from (damage k) u e = no_answer e
 
 module _ {s numbers₀ sides₀ : List ℕ} {levels₀ : List ℤ} {numbers sides : List ℕ} {levels : List ℤ} {at k place : ℕ}
     (i : Filling s numbers₀ sides₀ levels₀ numbers sides levels at k place) {n : ℕ} (e : counted (parse s) ≡ answers n) where
@@ -209,12 +207,6 @@ module _ {s numbers₀ sides₀ : List ℕ} {levels₀ : List ℤ} {numbers side
 -- the buffers keep their lengths
 module _ {s numbers₀ sides₀ : List ℕ} {levels₀ : List ℤ} {numbers sides : List ℕ} {levels : List ℤ} {at k place : ℕ}
     (i : Filling s numbers₀ sides₀ levels₀ numbers sides levels at k place) where
-  pub numbers_long : k ≤ length numbers₀ → length numbers ≡ length numbers₀
-  numbers_long h = ap length i.numbers_are ∙ length_pasted numbers₀ 0 (numbers_of i.done) (omega (arith, numbers_length i.done, i.many))
-
-  pub sides_long : 2 * k ≤ length sides₀ → length sides ≡ length sides₀
-  sides_long h = ap length i.sides_are ∙ length_pasted sides₀ 0 (sides_of i.done) (omega (arith, sides_length i.done, i.many))
-
   pub levels_long : places_of (list_found (parse s)) ≤ length levels₀ → length levels ≡ length levels₀
   levels_long h =
       ap length i.levels_are

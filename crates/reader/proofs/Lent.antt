@@ -9,14 +9,11 @@ use lib.Dec.{T, ltb}
 use lib.ListN.{length}
 use Rattle.laws.proofs.Bool.{neither}
 use Rattle.laws.proofs.Divide.{ltb_div}
-use Rattle.answer.proofs.Answer.{guarded_small}
+use Rattle.answer.proofs.Answer.{no_answer, guarded_small}
 use Rattle.answer.specs.Answer.{answers, refuses, lowest, is_small}
 use Rattle.format.specs.Format.{Found, blocks, damage}
 use Rattle.look.specs.Look.{places_of, counted, list_found}
-use Rattle.reader.specs.Reading.{read_answer}
-
-no_answer : {X : Type 0} {k n : ℕ} → refuses k ≡ answers n → X
-no_answer e = absurd (let z : ◌≡◌ {A = ℕ} 0 1 = cc in omega arith)
+use Rattle.reader.specs.Read.{read_answer}
 
 -- the code's test of the three buffers
 abbrev pub short : ℕ → ℕ → ℕ → ℕ → ℕ → Bool

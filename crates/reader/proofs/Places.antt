@@ -2,34 +2,23 @@
 use mathlib.Core.Bool.{Bool, false, cond}
 use mathlib.Core.List.{List}
 use mathlib.Core.Path.{◌≡◌, refl, sym, ap, ap₂, ◌∙◌}
-use Prim.Native.Nat.{ℕ, zero, suc, ◌+◌, ◌*◌, ◌/◌, ◌%◌, ◌^◌, ◌≤◌, ◌<◌, min}
-use native.Mathlib.Nat.{zero-div, mul-zero, mul-one, mod-lt}
+use Prim.Native.Nat.{ℕ, suc, ◌+◌, ◌*◌, ◌/◌, ◌%◌, ◌^◌, ◌≤◌, ◌<◌}
+use native.Mathlib.Nat.{zero-div, mod-lt}
 use native.Mathlib.Omega.{arith}
 use lib.Count.{ones}
 use lib.Dec.{eqb, lit<}
 use lib.IntN.{pos}
 use lib.ListN.{length, get_or, replicate}
 use Rattle.laws.specs.Store.{tab}
+use Rattle.laws.proofs.Bool.{bit_is}
 use Rattle.laws.proofs.Laid.{tab_ext}
 use Rattle.format.specs.Pieces.{number_at, of_word, bit_of}
 use Rattle.format.specs.Format.{bit_in, count_in, list_in, listed_in, level_in, places_in, length_in}
 use Rattle.format.proofs.Sides.{sized_in}
 use Rattle.format.proofs.Listed.{standing_more, standing_within}
-use Rattle.look.proofs.Counted.{bit_at, bit_is, ones_none, byte_ones, count_eight}
+use Rattle.look.proofs.Counted.{bit_at, ones_none, byte_ones, count_eight}
 
 -- ---- a level by its bit
-
-pub bit_times : (n b : ℕ) → b ≤ 1 → n * b ≤ n
-bit_times n zero h = omega arith
-bit_times n (suc zero) h = omega arith
-bit_times n (suc (suc b)) h = absurd (omega arith)
-
--- read at a place, or at the last one where that is lower
-pub picked : (s : List ℕ) (at last b : ℕ) → b ≤ 1 → at + 4 * b ≤ last + 4 → of_word (number_at s (min at last) * b) ≡ cond (eqb b 1) (of_word (number_at s at)) (pos 0)
-picked s at last zero h room = ap of_word (mul-zero (number_at s (min at last)))
-picked s at last (suc zero) h room =
-    ap of_word (mul-one (number_at s (min at last)) ∙ ap (number_at s) (let e : min at last ≡ at = omega arith in e))
-picked s at last (suc (suc b)) h room = absurd (omega arith)
 
 zeros : replicate 8 (pos 0) ≡ tab 8 (λ i. pos 0)
 unfolding tab

@@ -5,7 +5,7 @@ ghost use Rattle.answer.specs.Answer.{told, answers};
 ghost use Rattle.format.specs.Pieces.{of_word, number_at};
 ghost use Rattle.format.specs.Format.{width_in, height_in, places_in, count_in, list_in, level_in, length_in, parse};
 ghost use Rattle.look.specs.Look.{places_of, counted, list_found};
-ghost use Rattle.reader.specs.Reading.{numbers_of, sides_of, levels_of, read_answer, numbers_after, sides_after, levels_after};
+ghost use Rattle.reader.specs.Read.{numbers_of, sides_of, levels_of, read_answer, numbers_after, sides_after, levels_after};
 
 use answer::{Outcome, Refusal};
 use look::Whole;

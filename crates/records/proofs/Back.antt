@@ -11,14 +11,14 @@ use lib.IntN.{ℤ, pos}
 use lib.ListN.{length, get_or, drop, length-drop}
 use lib.Seq.{length-take-le}
 use Rattle.laws.proofs.Every.{every_each}
-use Rattle.laws.proofs.Front.{tab_cons}
+use Rattle.laws.proofs.Tab.{tab_cons}
 use Rattle.laws.specs.Store.{tab}
 use Rattle.answer.specs.Answer.{answers}
 use Rattle.format.proofs.Parse.{read_back}
 use Rattle.format.proofs.Record.{is_block_lem}
-use Rattle.format.specs.Pieces.{is_near}
+use Rattle.format.specs.Pieces.{is_near, are_near}
 use Rattle.format.specs.Format.{Block, bytes_of, is_block, are_blocks, blocks, parse}
-use Rattle.writer.specs.Writing.{places_at, place_at, block_from, block_at, blocks_in, write_answer}
+use Rattle.writer.specs.Write.{places_at, place_at, block_from, block_at, blocks_in, write_answer}
 use Rattle.writer.proofs.Admitted.{Admitted, admitted}
 use Rattle.writer.proofs.Blocks.{level_from_lem, place_within, sides_at}
 
@@ -35,7 +35,7 @@ rising_tab (suc n) g low b l r =
 module _ (count : ℕ) (numbers sides : List ℕ) (levels : List ℤ) (room : ℕ) (small : (i : ℕ) → get_or numbers i 0 < 2 ^ 32)
     (ok : Admitted count numbers sides levels room) where
   is_whole : (k : ℕ) → k < count → is_block (block_at numbers sides levels k) ≡ true
-  unfolding block_at block_from
+  unfolding are_near block_at block_from
   is_whole k h =
       let place = place_at sides k in
       let s = sides_at count sides ok.sided k h in

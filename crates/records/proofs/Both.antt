@@ -13,23 +13,23 @@ use lib.ListN.{length, get_or, take, drop}
 use lib.Seq.{take-append_seam}
 use Rattle.laws.proofs.Bool.{both, neither}
 use Rattle.laws.proofs.Every.{every_all}
-use Rattle.laws.proofs.Front.{tab_cons}
+use Rattle.laws.proofs.Tab.{tab_cons}
 use Rattle.laws.proofs.Laid.{length_tab}
 use Rattle.laws.proofs.Pasted.{length_pasted}
 use Rattle.laws.proofs.Place.{split}
 use Rattle.laws.specs.Store.{tab, pasted, over}
 use Rattle.laws.specs.Sum.{sum_ℕ}
-use Rattle.answer.proofs.Answer.{passed, the_answer, accepted_alike}
+use Rattle.answer.proofs.Answer.{passed, the_answer, accepted_alike, no_answer}
 use Rattle.answer.specs.Answer.{Answer, answers, lowest, after}
 use Rattle.sizes.specs.Size.{is_side}
 use Rattle.format.proofs.Parse.{only_bytes}
 use Rattle.format.proofs.Record.{Whole, whole}
-use Rattle.format.specs.Pieces.{Bytes, is_near}
+use Rattle.format.specs.Pieces.{Bytes, is_near, are_near}
 use Rattle.format.specs.Format.{Block, bytes_of, is_block, are_blocks, Found, blocks, damage, parse}
 use Rattle.records.specs.Both.{WrittenRead, ReadWritten, BothWays}
 use Rattle.look.specs.Look.{places_of, list_found}
-use Rattle.reader.specs.Reading.{numbers_of, sides_of, levels_of, read_answer, numbers_after, sides_after, levels_after}
-use Rattle.writer.specs.Writing.{block_from, place_at, block_at, blocks_in, are_sides, are_near, is_rising, by_buffers, write_answer, bytes_after}
+use Rattle.reader.specs.Read.{numbers_of, sides_of, levels_of, read_answer, numbers_after, sides_after, levels_after}
+use Rattle.writer.specs.Write.{block_from, place_at, block_at, blocks_in, are_sides, is_rising, by_buffers, write_answer, bytes_after}
 use Rattle.writer.proofs.Admitted.{Admitted, admitted}
 use Rattle.records.proofs.Back.{written_reads}
 use Rattle.writer.proofs.Blocks.{level_from_lem}
@@ -148,7 +148,8 @@ module _ (n : ℕ) (numbers sides : List ℕ) (levels : List ℤ) (room : ℕ) (
       ∙ (block k (omega arith)).near (p - place) (omega arith)))
       (split p (place_at sides k))
 
-  near_ok : are_near n sides levels ≡ true
+  near_ok : are_near (place_at sides n) levels ≡ true
+  unfolding are_near
   near_ok = every_all (place_at sides n) (λ p. is_near (get_or levels p (pos 0))) (near_at n (omega arith))
 
   rising_ok : is_rising n numbers ≡ true
@@ -195,7 +196,7 @@ reads (blocks bs) n numbers sides levels e =
       sides_room = ltb-false _ _ c.0;
       levels_room = ltb-false _ _ c.1;
     }
-reads (damage k) n numbers sides levels e = absurd (let z : ◌≡◌ {A = ℕ} 0 1 = cc in omega arith)
+reads (damage k) n numbers sides levels e = no_answer e
 
 -- the buffers hold the list
 held_over : (bs : List Block) → are_blocks 0 bs ≡ true → (n₀ s₀ : List ℕ) (l₀ : List ℤ)

@@ -10,7 +10,7 @@ use lib.IntN.{ℤ}
 use lib.ListN.{length, get_or, take, drop, length-append}
 use lib.Seq.{take-suc, take-add, take_at, drop_at, drop-drop}
 use Rattle.laws.proofs.Bool.{both}
-use Rattle.laws.proofs.Front.{tab_cons}
+use Rattle.laws.proofs.Tab.{tab_cons}
 use Rattle.laws.proofs.Laid.{tab_ext}
 use Rattle.laws.specs.Store.{tab}
 use Rattle.laws.proofs.Sum.{sum_of_more}
@@ -18,8 +18,8 @@ use Rattle.laws.specs.Sum.{sum_ℕ, sum_of}
 use Rattle.format.proofs.Record.{whole}
 use Rattle.format.specs.Format.{Block, is_block, are_blocks}
 use Rattle.look.specs.Look.{area_of, places_of}
-use Rattle.reader.specs.Reading.{numbers_of, sides_of, levels_of}
-use Rattle.writer.specs.Writing.{block_from, places_at, place_at, block_at, blocks_in}
+use Rattle.reader.specs.Read.{numbers_of, sides_of, levels_of}
+use Rattle.writer.specs.Write.{block_from, places_at, place_at, block_at, blocks_in}
 use Rattle.reader.proofs.Filling.{numbers_more, sides_more, levels_more}
 
 -- ---- from buffers

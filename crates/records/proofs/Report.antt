@@ -17,7 +17,7 @@ use Rattle.format.proofs.Record.{whole}
 use Rattle.format.specs.Pieces.{standing, stands}
 use Rattle.format.specs.Format.{Block, level_of, are_blocks, parse}
 use Rattle.look.specs.Look.{places_of}
-use Rattle.reader.specs.Reading.{levels_of}
+use Rattle.reader.specs.Read.{levels_of}
 use Rattle.totals.specs.Totals.{nonzero_in, magnitude_in, totals, report_of}
 use Rattle.records.specs.Report.{AsRead}
 use Rattle.records.proofs.Both.{reads, levels_left}

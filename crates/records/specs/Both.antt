@@ -4,8 +4,8 @@ use Rattle.laws.specs.Store.{over}
 use Rattle.answer.specs.Answer.{answers}
 use Rattle.format.specs.Pieces.{Bytes}
 use Rattle.format.specs.Format.{parse}
-use Rattle.reader.specs.Reading.{read_answer, numbers_after, sides_after, levels_after}
-use Rattle.writer.specs.Writing.{place_at, write_answer, bytes_after}
+use Rattle.reader.specs.Read.{read_answer, numbers_after, sides_after, levels_after}
+use Rattle.writer.specs.Write.{place_at, write_answer, bytes_after}
 
 -- a reading of the m bytes that an accepted writing wrote, into buffers with room: the list that was lent, number by number
 abbrev pub WrittenRead : Type 0

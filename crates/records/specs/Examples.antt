@@ -3,8 +3,8 @@ use Rattle.std.specs.Prelude.{List, [], ◌∷◌, ◌++◌, ◌≡◌, ℕ, ℤ
 use Rattle.answer.specs.Answer.{answers, refuses}
 use Rattle.format.specs.Examples.{bytes, three, less}
 use Rattle.format.specs.Format.{parse}
-use Rattle.reader.specs.Reading.{read_answer, numbers_after, sides_after, levels_after}
-use Rattle.writer.specs.Writing.{write_answer, bytes_after}
+use Rattle.reader.specs.Read.{read_answer, numbers_after, sides_after, levels_after}
+use Rattle.writer.specs.Write.{write_answer, bytes_after}
 
 -- "Block 7, 4×4, with 3 at place 0 and -1 at 5", and the first level another
 abbrev pub levels : ℤ → List ℤ

@@ -5,7 +5,7 @@ use Rattle.answer.specs.Answer.{answers}
 use Rattle.format.specs.Pieces.{Bytes, stands}
 use Rattle.format.specs.Format.{parse}
 use Rattle.look.specs.Look.{places_of, list_found}
-use Rattle.reader.specs.Reading.{read_answer, levels_after}
+use Rattle.reader.specs.Read.{read_answer, levels_after}
 use Rattle.totals.specs.Totals.{totals, report_of}
 
 -- "Each total equals the total over the list of blocks that the reader gives": where a reading is accepted, the blocks are what it answers, and

@@ -13,7 +13,7 @@ use Rattle.laws.proofs.Bool.{decided}
 use Rattle.laws.proofs.Pasted.{length_pasted}
 use Rattle.totals.proofs.Refusals.{refused_same, refusals}
 use Rattle.totals.specs.Totals.{Reported, refused, report_of}
-use Rattle.report.specs.Text.{text_of, file_report, Printed, NeverThree}
+use Rattle.report.specs.Text.{text_of, file_report, PrintedAs, NeverThree}
 use Rattle.report.proofs.Decimal.{text_length}
 
 module _ (failed : Bool) (s : List ℕ) where
@@ -39,7 +39,7 @@ never_three failed s bytes e =
     other k is (inr (inr (inr e))) = omega arith
 
 -- a text's length is a place of the buffer that it stands in
-pub printed_front : {report : Reported} {old new : List ℕ} {n : ℕ} → Printed report old n new → 87 ≤ length old → IsPrefixLen n new
+pub printed_front : {report : Reported} {old new : List ℕ} {n : ℕ} → PrintedAs report old n new → 87 ≤ length old → IsPrefixLen n new
 printed_front {report} {old} {new} {n} p room =
     let fits = text_length report in
     prefix_len_of_le n new (omega (arith, p.value, ap length p.out_after, length_pasted old 0 (text_of report) (omega arith)))

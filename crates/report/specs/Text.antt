@@ -28,7 +28,7 @@ text_of (totals b l m) = line (ascii "blocks ") b ++ (line (ascii "levels ") l +
 text_of (refused k) = line (ascii "refused ") k
 
 -- where a report's text stands at the front of a buffer that was old, n bytes of it
-pub record Printed (report : Reported) (old : List ℕ) (n : ℕ) (new : List ℕ) : Type 0 where
+pub record PrintedAs (report : Reported) (old : List ℕ) (n : ℕ) (new : List ℕ) : Type 0 where
   pub value : n ≡ length (text_of report)
   pub out_after : new ≡ over (text_of report) old
 

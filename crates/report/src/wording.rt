@@ -3,7 +3,7 @@ ghost use Rattle.std.specs.Prelude.{◌≡◌, true, false, ◌+◌, ◌≤◌, 
 ghost use Rattle.io.specs.Counts.{IsPrefixLen};
 ghost use Rattle.laws.specs.Store.{pasted};
 ghost use Rattle.totals.specs.Totals.{reported};
-ghost use Rattle.report.specs.Text.{line, file_report, Printed};
+ghost use Rattle.report.specs.Text.{line, file_report, PrintedAs};
 
 use answer::Refusal;
 use totals::Totals;
@@ -50,7 +50,7 @@ fn report(file: Option<&[u8]>) -> Result<Totals, Refusal>
 // Puts the text of a report. Gives back its length.
 fn put_text(report: Result<Totals, Refusal>, out: &mut [u8]) -> usize
     requires { 87 ≤ length out.old }
-    ensures { Printed (reported report) out.old result out.new }
+    ensures { PrintedAs (reported report) out.old result out.new }
 {
     match report {
         Ok(t) => {
@@ -66,7 +66,7 @@ fn put_text(report: Result<Totals, Refusal>, out: &mut [u8]) -> usize
 pub fn put_report(file: Option<&[u8]>, out: &mut [u8]) -> usize
     requires { 87 ≤ length out.old }
     ensures prefix_len { IsPrefixLen result out.new }
-    ensures text_after { MatchOption file.entry (Printed (file_report true []) out.old result out.new) (λ s. Printed (file_report false s.now) out.old result out.new) }
+    ensures text_after { MatchOption file.entry (PrintedAs (file_report true []) out.old result out.new) (λ s. PrintedAs (file_report false s.now) out.old result out.new) }
 {
     put_text(report(file), out)
 }

@@ -5,7 +5,7 @@ ghost use Rattle.std.specs.Prelude.{◌≡◌, length};
 ghost use Rattle.residual.specs.Residual.{residuals_ok};
 
 // Whether each residual lies from -4095 to 4095.
-#[tactic(auto, unfolding(crate::specs::Residual::residuals_ok, crate::specs::Residual::in_limit, fixed::specs::Limit::all_within, fixed::specs::Limit::is_within))]
+#[tactic(auto, unfolding(crate::specs::Residual::residuals_ok))]
 pub fn residuals_ok(residuals: &[i32]) -> bool
     ensures { result ≡ residuals_ok (length residuals.now) residuals.now }
 {

@@ -5,11 +5,11 @@ use mathlib.Core.Bool.{Bool, true, false, cond, ◌||◌}
 use Prim.Native.Nat.{ℕ, ◌+◌, ◌-◌, ◌*◌, ◌≤◌, ◌^◌}
 use native.Mathlib.Nat.{mul-le-mul}
 use native.Mathlib.Omega.{arith}
-use lib.Dec.{T, eqb, lit≤}
-use borrow.Author.Tests.{eqb-true, ne_eqb}
+use lib.Dec.{eqb, lit≤}
+use borrow.Author.Tests.{eqb-true}
 use Rattle.laws.proofs.Bool.{either}
 use Rattle.laws.specs.Table.{every}
-use Rattle.laws.proofs.Table.{every_at}
+use Rattle.laws.proofs.Every.{every_each}
 use Rattle.sizes.specs.Size.{is_side, log_of}
 
 -- n is one of the four sides
@@ -32,20 +32,6 @@ pub each_side : (P : ℕ → Type 0) → P 4 → P 8 → P 16 → P 32 → (n : 
 each_side P a b c d n s =
     ⊎_elim (λ e. subst P (sym e) a) (⊎_elim (λ e. subst P (sym e) b) (⊎_elim (λ e. subst P (sym e) c) (λ e. subst P (sym e) d)))
     (side_cases n s)
-
-pub is_side_lem : (n : ℕ) → Four n → is_side n ≡ true
-unfolding is_side
-is_side_lem n h = ⊎_elim (λ a. rw a) (⊎_elim (λ a. rw a) (⊎_elim (λ a. rw a) (λ a. rw a))) h
-
-pub no_side : (n : ℕ) → (Four n → ⊥) → is_side n ≡ false
-unfolding is_side
-no_side n h =
-    rw (
-      ne_eqb n 4 (λ e. h (inl e)),
-      ne_eqb n 8 (λ e. h (inr (inl e))),
-      ne_eqb n 16 (λ e. h (inr (inr (inl e)))),
-      ne_eqb n 32 (λ e. h (inr (inr (inr e)))),
-    )
 
 pub record Sided (n : ℕ) : Type 0 where
   pub low : 4 ≤ n
@@ -93,13 +79,13 @@ log_bounds n = pick (eqb n 4) (pick (eqb n 8) (pick (eqb n 16) five four) three)
     five = record { low = lit≤ tt; high = lit≤ tt }
 
 -- what a test over the sixteen sizes, which the checker computes, says of each
-pub each_size : (test : ℕ → ℕ → Bool) → T (every 4 (λ i. every 4 (λ j. test (2 ^ (i + 2)) (2 ^ (j + 2)))))
-    → (w h : ℕ) → is_side w ≡ true → is_side h ≡ true → T (test w h)
+pub each_size : (test : ℕ → ℕ → Bool) → every 4 (λ i. every 4 (λ j. test (2 ^ (i + 2)) (2 ^ (j + 2)))) ≡ true
+    → (w h : ℕ) → is_side w ≡ true → is_side h ≡ true → test w h ≡ true
 each_size test all w h sw sh =
     let lw = log_bounds w in let lh = log_bounds h in
     let i = log_of w - 2 in let j = log_of h - 2 in
     let wi : i + 2 ≡ log_of w = omega arith in let hj : j + 2 ≡ log_of h = omega arith in
-    let row = every_at 4 (λ i. every 4 (λ j. test (2 ^ (i + 2)) (2 ^ (j + 2)))) all i (omega arith) in
-    subst T
+    let row = every_each 4 (λ i. every 4 (λ j. test (2 ^ (i + 2)) (2 ^ (j + 2)))) all i (omega arith) in
+    subst (λ (b : Bool). b ≡ true)
     (ap₂ test (ap (λ (e : ℕ). 2 ^ e) wi ∙ sym (side_bounds w sw).power) (ap (λ (e : ℕ). 2 ^ e) hj ∙ sym (side_bounds h sh).power))
-    (every_at 4 (λ j. test (2 ^ (i + 2)) (2 ^ (j + 2))) row j (omega arith))
+    (every_each 4 (λ j. test (2 ^ (i + 2)) (2 ^ (j + 2))) row j (omega arith))

@@ -6,7 +6,7 @@ use Rattle.answer.specs.Answer.{Answer, lowest}
 unfoldable pub is_side : ℕ → Bool
 is_side n = eqb n 4 || (eqb n 8 || (eqb n 16 || eqb n 32))
 
--- log2 of a side
+-- log2 of a side; 5 where n is no side
 unfoldable pub log_of : ℕ → ℕ
 log_of n = cond (eqb n 4) 2 (cond (eqb n 8) 3 (cond (eqb n 16) 4 5))
 

@@ -1,7 +1,7 @@
 // Sides, their logarithms, and what a block's size settles: the two shifts and the DC scale.
 #![tactic(auto)]
 
-ghost use Rattle.std.specs.Prelude.{◌≡◌, true, false, ◌&&◌, ◌+◌, ◌*◌, ◌≤◌, MatchResult};
+ghost use Rattle.std.specs.Prelude.{◌≡◌, true, false, ◌&&◌, ◌+◌, ◌*◌, ◌≤◌, ltb, MatchResult};
 ghost use Rattle.answer.specs.Answer.{told};
 ghost use Rattle.answer.specs.declared.Refusal.TheVariants.{BadSize};
 ghost use Rattle.sizes.specs.Size.{is_side, log_of, dc_tx_scale};
@@ -111,4 +111,14 @@ pub fn dc_tx_scale(w: usize, h: usize) -> Outcome
         return Ok(0);
     }
     Ok((s - 7) / 2)
+}
+
+// Whether count lines, or columns of a plane, from start on end past the last of this many.
+pub fn ends_past(lines: usize, start: usize, count: usize) -> bool
+    ensures { result ≡ ltb lines (start + count) }
+{
+    if lines < count {
+        return true;
+    }
+    lines - count < start
 }

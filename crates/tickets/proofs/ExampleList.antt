@@ -4,9 +4,10 @@ use Rattle.laws.specs.Store.{tab}
 use Rattle.answer.specs.Answer.{Answer, answers, lowest}
 use Rattle.sizes.specs.Size.{is_side}
 use Rattle.kernels.specs.Kernel.{has_kernel}
-use Rattle.residual.specs.Residual.{in_limit, residuals_ok}
-use Rattle.block.specs.Answer.{has_kinds, refusals}
-use Rattle.tickets.specs.Mark.{within}
+use Rattle.fixed.specs.Limit.{is_within, all_within}
+use Rattle.residual.specs.Residual.{residuals_ok}
+use Rattle.block.specs.Call.{is_kind, has_kinds, refusals}
+use Rattle.tickets.specs.Mark.{is_among}
 use Rattle.tickets.specs.Batch.{out_of_range, ticket_after}
 use Rattle.tickets.specs.Open.{open_answer, new_ticket}
 use Rattle.tickets.specs.Run.{state_at, Run, run}
@@ -16,14 +17,14 @@ use Rattle.tickets.specs.declared.Ticket.{Ticket}
 
 -- an opening that is accepted
 pub opens : open_answer 8 4 0 0 (zeros 32) 32 32 ≡ answers 0
-unfolding open_answer refusals lowest is_side has_kinds has_kernel residuals_ok in_limit
+unfolding open_answer refusals lowest is_side has_kinds is_kind has_kernel residuals_ok all_within is_within
 opens = refl
 
 pub list_answers : ListAnswers
-unfolding settled tab answer_to covered covers within out_of_range lowest
+unfolding settled tab answer_to covered covers is_among out_of_range lowest
 list_answers claim r o = (
   o.answer ∙ opens,
-  ap (λ (t : Ticket). (run (zeros 32) (state_at t (zeros 32) (zeros 32)) list).answers)
+  ap (λ (t : Ticket). (run (zeros 32) (state_at t (zeros 32) (zeros 32)) list).answered)
       (o.ticket ∙ ap (λ (a : Answer). ticket_after a (new_ticket 8 4 0 0) (new_ticket 0 0 0 0)) opens)
-      ∙ ap (λ (x : Run). x.answers) (claim 8 4 0 0 (zeros 32) (zeros 32) (zeros 32) opens list),
+      ∙ ap (λ (x : Run). x.answered) (claim 8 4 0 0 (zeros 32) (zeros 32) (zeros 32) opens list),
 )

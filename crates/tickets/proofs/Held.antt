@@ -14,9 +14,9 @@ use lib.Seq.{ext_get_or}
 use Rattle.laws.specs.Store.{laid}
 use Rattle.laws.proofs.Laid.{length_tab, get_or_tab, length_laid, laid_before, laid_at, laid_after}
 use Rattle.laws.proofs.Place.{split}
-use Rattle.tickets.specs.Mark.{within}
+use Rattle.tickets.specs.Mark.{is_among}
 use Rattle.tickets.specs.Condition3.{held}
-use Rattle.tickets.proofs.Mark.{within_in, within_out}
+use Rattle.tickets.proofs.Mark.{among_in, among_out}
 
 module _ (n : ℕ) (p : ℕ → Bool) (g : ℕ → ℕ → ℤ) (d : List ℤ) where
   pub held_length : length (held n p g d) ≡ length d
@@ -60,7 +60,7 @@ module _ (n : ℕ) (p : ℕ → Bool) (g : ℕ → ℕ → ℤ) (d : List ℤ) (
   old = held n p g d
 
   abbrev new : ℕ → Bool
-  new j = p j || within s c j
+  new j = p j || is_among s c j
 
   abbrev line : ℕ → ℤ
   line k = g (s + k / n) (k % n)
@@ -69,7 +69,7 @@ module _ (n : ℕ) (p : ℕ → Bool) (g : ℕ → ℕ → ℤ) (d : List ℤ) (
   fits = omega (arith, add-mul s c n, held_length n p g d)
 
   -- a place whose line is not among them
-  off : (q : ℕ) → q < length d → within s c (q / n) ≡ false → get_or old q (pos 0) ≡ get_or (held n new g d) q (pos 0)
+  off : (q : ℕ) → q < length d → is_among s c (q / n) ≡ false → get_or old q (pos 0) ≡ get_or (held n new g d) q (pos 0)
   off q b e =
       held_at n p g d q b
       ∙ ap (λ (x : Bool). cond x (g (q / n) (q % n)) (get_or d q (pos 0))) (sym (ap (λ (y : Bool). p (q / n) || y) e ∙ or-false (p (q / n))))
@@ -84,7 +84,7 @@ module _ (n : ℕ) (p : ℕ → Bool) (g : ℕ → ℕ → ℤ) (d : List ℤ) (
       ∙ sym (ap (λ (x : ℕ). get_or (held n new g d) x (pos 0)) e
       ∙ held_line n new g d (s + k / n) (k % n) (mod-lt k some)
       (omega (arith, e, add-mul s c n))
-      (ap (λ (y : Bool). p (s + k / n) || y) (within_in s c (s + k / n) (omega arith) (omega arith)) ∙ or-true (p (s + k / n))))
+      (ap (λ (y : Bool). p (s + k / n) || y) (among_in s c (s + k / n) (omega arith) (omega arith)) ∙ or-true (p (s + k / n))))
 
   pub held_more : laid old (s * n) (c * n) line ≡ held n new g d
   held_more =
@@ -95,7 +95,7 @@ module _ (n : ℕ) (p : ℕ → Bool) (g : ℕ → ℕ → ℤ) (d : List ℤ) (
       ⊎_elim
       (λ u.
       laid_before old (s * n) (c * n) line fits q (pos 0) u
-      ∙ off q l (within_out s c (q / n) (λ a v. omega (arith, (div-lt_iff_lt-mul {x = q} {y = s} some).1 u))))
+      ∙ off q l (among_out s c (q / n) (λ a v. omega (arith, (div-lt_iff_lt-mul {x = q} {y = s} some).1 u))))
       (λ u.
       ⊎_elim
       (λ v.
@@ -104,6 +104,6 @@ module _ (n : ℕ) (p : ℕ → Bool) (g : ℕ → ℕ → ℤ) (d : List ℤ) (
       (λ v.
       let e : s * n + c * n + (q - (s * n + c * n)) ≡ q = omega arith in
       rw e at (laid_after old (s * n) (c * n) line fits (q - (s * n + c * n)) (pos 0))
-      ∙ off q l (within_out s c (q / n) (λ a v. omega (arith, (le-div_iff_mul-le {x = s + c} {y = q} some).1 (omega (arith, add-mul s c n))))))
+      ∙ off q l (among_out s c (q / n) (λ a v. omega (arith, (le-div_iff_mul-le {x = s + c} {y = q} some).1 (omega (arith, add-mul s c n))))))
       (split q (s * n + c * n)))
       (split q (s * n)))

@@ -9,6 +9,5 @@ pub mod Opened
 pub mod Order
 pub mod Played
 pub mod Reached
-pub mod Reading
 pub mod Runs
 pub mod Step

@@ -5,31 +5,24 @@ use mathlib.Core.Bool.{Bool, true, false, cond, not, ◌||◌, or-true}
 use Prim.Native.Nat.{ℕ, zero, suc, ◌+◌, ◌-◌, ◌*◌, ◌/◌, ◌%◌, ◌^◌, ◌<◌, ◌≤◌}
 use native.Mathlib.Nat.{pow-suc, mul-one, one-mul, div-one, lt_of_lt_of_le}
 use native.Mathlib.Omega.{arith}
-use borrow.Author.Tests.{eq-eqb, ne_eqb, eqb-true, eqb-false, le-leb, lt-ltb, leb-true, ltb-true}
+use borrow.Author.Tests.{eq-eqb, eqb-true, le-leb, lt-ltb, leb-true, ltb-true, not-true}
 use lib.Dec.{leb, ltb, eqb, leb-suc-suc, leb-suc-zero, leb-zero}
 use lib.Pow.{pow_pos, pow_mono, ones_lt, shl_exact, shl_lt, shr-shr, shr_lt}
 use lib.Bits.{bit_or, or_shr, or_mod, or_lt, shifted_even, shifted_half}
 use Rattle.laws.specs.Table.{every}
+use Rattle.laws.proofs.Bits.{low_bit, above_bit, bit_and_rest, or_bits, ones_odd, ones_half}
 use Rattle.laws.proofs.Bool.{both, decided, or_already, same_test}
 use Rattle.laws.proofs.Every.{every_all, every_each, every_same}
-use Rattle.tickets.specs.Mark.{marked, mask_of, any_from, all_marked, within, with_lines}
+use Rattle.tickets.specs.Mark.{marked, mask_of, any_from, all_marked, is_among, with_lines}
 
 -- ---- a mask and its lines
-
-mask_odd : (x : Bool) (m : ℕ) → eqb ((cond x 1 0 + 2 * m) % 2) 1 ≡ x
-mask_odd true m = eq-eqb ((1 + 2 * m) % 2) 1 (omega arith)
-mask_odd false m = ne_eqb ((0 + 2 * m) % 2) 1 (omega arith)
-
-mask_half : (x : Bool) (m : ℕ) → (cond x 1 0 + 2 * m) / 2 ≡ m
-mask_half true m = omega arith
-mask_half false m = omega arith
 
 pub marked_mask : (n : ℕ) (p : ℕ → Bool) (j : ℕ) → j < n → marked (mask_of n p) j ≡ p j
 unfolding marked mask_of
 marked_mask zero p j b = absurd (omega arith)
-marked_mask (suc n) p zero b = mask_odd (p 0) (mask_of n (λ j. p (suc j)))
+marked_mask (suc n) p zero b = low_bit (p 0) (mask_of n (λ j. p (suc j)))
 marked_mask (suc n) p (suc j) b =
-    ap (λ (m : ℕ). marked m j) (mask_half (p 0) (mask_of n (λ j. p (suc j)))) ∙ marked_mask n (λ j. p (suc j)) j (omega arith)
+    ap (λ (m : ℕ). marked m j) (above_bit (p 0) (mask_of n (λ j. p (suc j)))) ∙ marked_mask n (λ j. p (suc j)) j (omega arith)
 
 pub mask_same : (n : ℕ) (p q : ℕ → Bool) → ((j : ℕ) → j < n → p j ≡ q j) → mask_of n p ≡ mask_of n q
 unfolding mask_of
@@ -37,19 +30,12 @@ mask_same zero p q f = refl
 mask_same (suc n) p q f =
     ap₂ (λ (x : Bool) (m : ℕ). cond x 1 0 + 2 * m) (f 0 (omega arith)) (mask_same n (λ j. p (suc j)) (λ j. q (suc j)) (λ j b. f (suc j) (omega arith)))
 
-low_bit : (m : ℕ) → cond (eqb (m % 2) 1) 1 0 + 2 * (m / 2) ≡ m
-low_bit m =
-    ⊎_elim
-    (λ a. rw a (let e : m % 2 ≡ 1 = eqb-true (m % 2) 1 a in omega arith))
-    (λ a. rw a (let e : m % 2 ≡ 1 → ⊥ = eqb-false (m % 2) 1 a in omega arith))
-    (decided (eqb (m % 2) 1))
-
 -- a mask is that of the lines that it marks
 pub mask_marked : (n m : ℕ) → m < 2 ^ n → mask_of n (marked m) ≡ m
 unfolding mask_of marked
 mask_marked zero m b = omega arith
 mask_marked (suc n) m b =
-    ap (λ (k : ℕ). cond (eqb (m % 2) 1) 1 0 + 2 * k) (mask_marked n (m / 2) (omega (arith, pow-suc 2 n))) ∙ low_bit m
+    ap (λ (k : ℕ). cond (eqb (m % 2) 1) 1 0 + 2 * k) (mask_marked n (m / 2) (omega (arith, pow-suc 2 n))) ∙ bit_and_rest m
 
 marked_none : (j : ℕ) → marked 0 j ≡ false
 unfolding marked
@@ -71,17 +57,13 @@ marked_shr m (suc n) j =
     let d : m / 2 ^ suc n ≡ m / 2 / 2 ^ n = sym (rw e at (shr-shr m 1 n)) in
     rw (d, g) (marked_shr (m / 2) n j)
 
-not_not : (x : Bool) → not x ≡ true → x ≡ false
-not_not true e = sym e
-not_not false e = refl
-
 -- a mask of k lines is 0 exactly where none is marked
 none_test : (k m : ℕ) → m < 2 ^ k → every k (λ j. not (marked m j)) ≡ eqb m 0
 none_test k m b =
     same_test (every k (λ j. not (marked m j))) (eqb m 0)
     (λ e. eq-eqb m 0
     (sym (mask_marked k m b)
-    ∙ mask_same k (marked m) (marked 0) (λ j l. not_not (marked m j) (every_each k (λ j. not (marked m j)) e j l) ∙ sym (marked_none j))
+    ∙ mask_same k (marked m) (marked 0) (λ j l. not-true (marked m j) (every_each k (λ j. not (marked m j)) e j l) ∙ sym (marked_none j))
     ∙ mask_marked k 0 (pow_pos k)))
     (λ e. every_all k (λ j. not (marked m j)) (λ j l. ap (λ (x : ℕ). not (marked x j)) (eqb-true m 0 e) ∙ ap not (marked_none j)))
 
@@ -95,38 +77,23 @@ any_from_is m n few small =
 
 -- ---- what `with_lines` makes
 
-or_bit : (x y : ℕ) → x < 2 → y < 2 → eqb (bit_or x y) 1 ≡ (eqb x 1 || eqb y 1)
-or_bit zero zero p q = refl
-or_bit zero (suc zero) p q = refl
-or_bit (suc zero) zero p q = refl
-or_bit (suc zero) (suc zero) p q = refl
-or_bit zero (suc (suc y)) p q = absurd (omega arith)
-or_bit (suc zero) (suc (suc y)) p q = absurd (omega arith)
-or_bit (suc (suc x)) y p q = absurd (omega arith)
-
 marked_or : (a b j : ℕ) → marked (bit_or a b) j ≡ (marked a j || marked b j)
 unfolding marked
 marked_or a b zero =
     let p : a % 2 < 2 = omega arith in
     let q : b % 2 < 2 = omega arith in
-    ap (λ (x : ℕ). eqb x 1) (or_mod a b 1) ∙ or_bit (a % 2) (b % 2) p q
+    ap (λ (x : ℕ). eqb x 1) (or_mod a b 1) ∙ or_bits (a % 2) (b % 2) p q
 marked_or a b (suc j) = ap (λ (x : ℕ). marked x j) (or_shr a b 1) ∙ marked_or (a / 2) (b / 2) j
 
 -- 2 ^ n - 1 marks the first n lines
-ones_odd : (n : ℕ) → (2 ^ suc n - 1) % 2 ≡ 1
-ones_odd n = omega (arith, pow-suc 2 n, pow_pos n)
-
-ones_half : (n : ℕ) → (2 ^ suc n - 1) / 2 ≡ 2 ^ n - 1
-ones_half n = omega (arith, pow-suc 2 n, pow_pos n)
-
 marked_ones : (n j : ℕ) → marked (2 ^ n - 1) j ≡ ltb j n
 unfolding marked
 marked_ones zero j = marked_none j ∙ sym (leb-suc-zero j)
 marked_ones (suc n) zero = rw (ones_odd n, lt-ltb 0 (suc n) (omega arith))
 marked_ones (suc n) (suc j) = ap (λ (x : ℕ). marked x j) (ones_half n) ∙ marked_ones n j ∙ sym (leb-suc-suc (suc j) n)
 
-marked_run : (s n j : ℕ) → marked ((2 ^ n - 1) * 2 ^ s) j ≡ within s n j
-unfolding marked within
+marked_run : (s n j : ℕ) → marked ((2 ^ n - 1) * 2 ^ s) j ≡ is_among s n j
+unfolding marked is_among
 marked_run zero n j =
     let e : 0 + n ≡ n = omega arith in
     ap (λ (x : ℕ). marked x j) (mul-one (2 ^ n - 1)) ∙ marked_ones n j ∙ rw (leb-zero j, e)
@@ -159,29 +126,29 @@ module _ (m s n : ℕ) (room : s + n ≤ 32) (small : m < 2 ^ 32) where
       (sym (mask_marked 32 (bit_or m ((2 ^ n - 1) * 2 ^ s)) or_lt_32)
       ∙ mask_same 32 _ _ (λ j b. marked_or m ((2 ^ n - 1) * 2 ^ s) j ∙ ap (λ (x : Bool). marked m j || x) (marked_run s n j)))
 
-pub marked_with : (m s n j : ℕ) → j < 32 → marked (with_lines m s n) j ≡ (marked m j || within s n j)
+pub marked_with : (m s n j : ℕ) → j < 32 → marked (with_lines m s n) j ≡ (marked m j || is_among s n j)
 unfolding with_lines
-marked_with m s n j b = marked_mask 32 (λ j. marked m j || within s n j) j b
+marked_with m s n j b = marked_mask 32 (λ j. marked m j || is_among s n j) j b
 
 -- ---- what `all_marked` looks at: with the first n lines marked a mask is as it was
 
-pub within_in : (s n j : ℕ) → s ≤ j → j < s + n → within s n j ≡ true
-unfolding within
-within_in s n j a b = rw (le-leb s j a, lt-ltb j (s + n) b)
+pub among_in : (s n j : ℕ) → s ≤ j → j < s + n → is_among s n j ≡ true
+unfolding is_among
+among_in s n j a b = rw (le-leb s j a, lt-ltb j (s + n) b)
 
-pub within_lt : (s n j : ℕ) → within s n j ≡ true → (s ≤ j) × (j < s + n)
-unfolding within
-within_lt s n j e = let h = both (leb s j) (ltb j (s + n)) e in (leb-true s j h.0, ltb-true j (s + n) h.1)
+pub among_lt : (s n j : ℕ) → is_among s n j ≡ true → (s ≤ j) × (j < s + n)
+unfolding is_among
+among_lt s n j e = let h = both (leb s j) (ltb j (s + n)) e in (leb-true s j h.0, ltb-true j (s + n) h.1)
 
-pub within_out : (s n j : ℕ) → (s ≤ j → j < s + n → ⊥) → within s n j ≡ false
-within_out s n j f = ⊎_elim (λ a. let h = within_lt s n j a in absurd (f h.0 h.1)) (λ a. a) (decided (within s n j))
+pub among_out : (s n j : ℕ) → (s ≤ j → j < s + n → ⊥) → is_among s n j ≡ false
+among_out s n j f = ⊎_elim (λ a. let h = among_lt s n j a in absurd (f h.0 h.1)) (λ a. a) (decided (is_among s n j))
 
 module _ (m n : ℕ) (few : n ≤ 32) (small : m < 2 ^ 32) where
   fills : every n (marked m) ≡ true → with_lines m 0 n ≡ m
   unfolding with_lines
   fills e =
-      mask_same 32 (λ j. marked m j || within 0 n j) (marked m)
-      (λ j b. or_already (marked m j) (within 0 n j) (λ w. every_each n (marked m) e j (omega (arith, within_lt 0 n j w))))
+      mask_same 32 (λ j. marked m j || is_among 0 n j) (marked m)
+      (λ j b. or_already (marked m j) (is_among 0 n j) (λ w. every_each n (marked m) e j (omega (arith, among_lt 0 n j w))))
       ∙ mask_marked 32 m small
 
   filled : with_lines m 0 n ≡ m → every n (marked m) ≡ true
@@ -190,7 +157,7 @@ module _ (m n : ℕ) (few : n ≤ 32) (small : m < 2 ^ 32) where
       (λ j b.
       ap (λ (x : ℕ). marked x j) (sym e)
       ∙ marked_with m 0 n j (omega arith)
-      ∙ ap (λ (x : Bool). marked m j || x) (within_in 0 n j (omega arith) (omega arith))
+      ∙ ap (λ (x : Bool). marked m j || x) (among_in 0 n j (omega arith) (omega arith))
       ∙ or-true (marked m j))
 
   pub all_marked_is : eqb (with_lines m 0 n) m ≡ all_marked n m

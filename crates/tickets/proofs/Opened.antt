@@ -9,7 +9,7 @@ use lib.ListN.{get_or}
 use Rattle.answer.specs.Answer.{answers, refuses}
 use Rattle.answer.proofs.Answer.{passed, refused_alike, accepted_alike}
 use Rattle.residual.proofs.Residual.{residual_size}
-use Rattle.block.specs.Answer.{has_kinds, refusals, block_answer}
+use Rattle.block.specs.Call.{has_kinds, refusals, block_answer}
 use Rattle.block.proofs.Accepted.{Accepted, accepted}
 use Rattle.tickets.specs.Open.{open_answer}
 

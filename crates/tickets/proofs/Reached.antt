@@ -1,44 +1,45 @@
 -- What accepted batches can have covered: lines that the block has, and rows only once every column is. Assumes nothing.
 use mathlib.Core.Path.{◌≡◌, refl, sym, ap, ◌∙◌}
 use mathlib.Core.Logic.{◌⊎◌, inl, inr, ⊎_elim}
-use mathlib.Core.Bool.{Bool, true, false, not, ◌&&◌, ◌||◌, beq, false≢true}
+use mathlib.Core.Bool.{Bool, true, false, not, ◌&&◌, ◌||◌, beq, false≢true, or-true}
 use mathlib.Core.List.{[], ◌∷◌}
 use Prim.Native.Nat.{ℕ, ◌+◌, ◌%◌, ◌<◌, ◌≤◌}
 use native.Mathlib.Omega.{arith}
 use borrow.Author.Tests.{ltb-false, not-false, eqb-true}
 use lib.Dec.{eqb, ltb}
 use Rattle.laws.specs.Table.{every}
-use Rattle.laws.proofs.Bool.{both, either, neither}
+use Rattle.laws.proofs.Bool.{both, either, neither, same_bool}
 use Rattle.laws.proofs.Every.{every_all, every_each}
 use Rattle.answer.specs.Answer.{Answer, answers, refuses, lowest}
-use Rattle.tickets.specs.Mark.{within}
+use Rattle.tickets.specs.Mark.{is_among}
 use Rattle.tickets.specs.Batch.{is_count, line_count, out_of_range}
 use Rattle.tickets.specs.declared.Batch.{Batch}
 use Rattle.tickets.specs.Condition3.{covers, answer_to, accepted, covered_with}
-use Rattle.tickets.proofs.Mark.{within_lt}
+use Rattle.tickets.proofs.Mark.{among_lt}
 
 -- ---- a batch within its range, and an accepted one
 
-pub record InRange (count start lines : ℕ) : Type 0 where
-  pub counted : is_count lines ≡ true
-  pub end : start + lines ≤ count
-  pub few : lines ≤ 8
+pub counted_few : (count : ℕ) → is_count count ≡ true → count ≤ 8
+counted_few count e =
+    ⊎_elim (λ u. omega (arith, eqb-true count 1 u))
+    (λ r. ⊎_elim (λ u. omega (arith, eqb-true count 4 u)) (λ u. omega (arith, eqb-true count 8 u)) (either (eqb count 4) (eqb count 8) r))
+    (either (eqb count 1) (eqb count 4 || eqb count 8) e)
 
-pub in_range : (count start lines : ℕ) → out_of_range count start lines ≡ false → InRange count start lines
+pub record InRange (lines start count : ℕ) : Type 0 where
+  pub counted : is_count count ≡ true
+  pub end : start + count ≤ lines
+  pub few : count ≤ 8
+
+pub in_range : (lines start count : ℕ) → out_of_range lines start count ≡ false → InRange lines start count
 unfolding out_of_range
-in_range count start lines e =
-    let more = eqb lines 4 || eqb lines 8 in
-    let off = more && not (eqb (start % 4) 0) in
-    let past = ltb count (start + lines) in
-    let a = neither (not (is_count lines)) (off || past) e in
-    let counted : is_count lines ≡ true = not-false (is_count lines) a.0 in
-    record {
-      counted = counted;
-      end = ltb-false count (start + lines) (neither off past a.1).1;
-      few = ⊎_elim (λ u. omega (arith, eqb-true lines 1 u))
-          (λ r. ⊎_elim (λ u. omega (arith, eqb-true lines 4 u)) (λ u. omega (arith, eqb-true lines 8 u)) (either (eqb lines 4) (eqb lines 8) r))
-          (either (eqb lines 1) more counted);
-    }
+in_range lines start count e =
+    let more = eqb count 4 || eqb count 8 in
+    let even = eqb (start % 4) 0 in
+    let a = neither (not (eqb count 1 || (more && even))) (ltb lines (start + count)) e in
+    let counted : is_count count ≡ true =
+    ⊎_elim (λ u. ap (λ (x : Bool). x || more) u) (λ r. ap (λ (x : Bool). eqb count 1 || x) (both more even r).0 ∙ or-true (eqb count 1))
+    (either (eqb count 1) (more && even) (not-false _ a.0)) in
+    record { counted = counted; end = ltb-false lines (start + count) a.1; few = counted_few count counted }
 
 pub record Refuses (a : Answer) : Type 0 where
   pub number : ℕ
@@ -53,23 +54,17 @@ either_way false true j k n = inr (record { number = k; is = refl })
 either_way false false j k n = inl (refl, refl, refl)
 
 pub cases : (w h : ℕ) (p : ℕ → Bool) (b : Batch)
-    → ((answer_to w h p b ≡ answers b.lines) × (out_of_range (line_count w h b.row) b.start b.lines ≡ false)
+    → ((answer_to w h p b ≡ answers b.count) × (out_of_range (line_count w h b.row) b.start b.count ≡ false)
     × ((b.row && not (every w p)) ≡ false))
     ⊎ Refuses (answer_to w h p b)
 unfolding answer_to
-cases w h p b = either_way (out_of_range (line_count w h b.row) b.start b.lines) (b.row && not (every w p)) 5 6 b.lines
+cases w h p b = either_way (out_of_range (line_count w h b.row) b.start b.count) (b.row && not (every w p)) 5 6 b.count
 
 -- a batch that covers a line is of the line's kind
-pub covers_kind : (b : Batch) (row : Bool) (j : ℕ) → covers b row j ≡ true → (b.row ≡ row) × (within b.start b.lines j ≡ true)
+pub covers_kind : (b : Batch) (row : Bool) (j : ℕ) → covers b row j ≡ true → (b.row ≡ row) × (is_among b.start b.count j ≡ true)
 unfolding covers
 covers_kind b row j e =
-    let k = both (beq b.row row) (within b.start b.lines j) e in (same_kind b.row row k.0, k.1)
-  where
-    same_kind : (x y : Bool) → beq x y ≡ true → x ≡ y
-    same_kind true true e = refl
-    same_kind true false e = sym e
-    same_kind false true e = e
-    same_kind false false e = refl
+    let k = both (beq b.row row) (is_among b.start b.count j) e in (same_bool b.row row k.0, k.1)
 
 -- ---- what is covered
 
@@ -92,7 +87,7 @@ module _ {w h : ℕ} {done : Bool → ℕ → Bool} (reached : Reached w h done)
       ⊎_elim
       (λ x.
       let range = rw kind.0 at x.1 in
-      (omega (arith, in_range (line_count w h row) b.start b.lines range, within_lt b.start b.lines j kind.1), rw kind.0 at x.2))
+      (omega (arith, in_range (line_count w h row) b.start b.count range, among_lt b.start b.count j kind.1), rw kind.0 at x.2))
       (λ r. absurd (false≢true (sym (ap accepted r.is) ∙ two.0)))
       (cases w h (done false) b)
 

@@ -5,7 +5,7 @@ use Prim.Native.Nat.{ℕ, zero, suc}
 use lib.IntN.{ℤ}
 use lib.ListN.{length}
 use Rattle.laws.specs.Store.{tab}
-use Rattle.laws.proofs.Front.{tab_cons}
+use Rattle.laws.proofs.Tab.{tab_cons}
 use Rattle.laws.proofs.Laid.{tab_ext}
 use Rattle.answer.specs.Answer.{Answer}
 use Rattle.tickets.specs.declared.Batch.{Batch}
@@ -13,9 +13,9 @@ use Rattle.tickets.specs.Run.{State, Step, Run, nth, step, state_after, run}
 use Rattle.tickets.specs.declared.Ticket.{Ticket}
 
 abbrev pub onto : Step → Run → Run
-onto r all = record { answers = r.answer ∷ all.answers; tickets = r.state.ticket ∷ all.tickets; state = all.state }
+onto r all = record { answered = r.answer ∷ all.answered; tickets = r.state.ticket ∷ all.tickets; state = all.state }
 
-pub run_none : (residuals : List ℤ) (s : State) → run residuals s [] ≡ record { answers = []; tickets = []; state = s }
+pub run_none : (residuals : List ℤ) (s : State) → run residuals s [] ≡ record { answered = []; tickets = []; state = s }
 unfolding run state_after tab
 run_none residuals s = refl
 
@@ -29,7 +29,7 @@ module _ (residuals : List ℤ) (s : State) (b : Batch) (bs : List Batch) where
   state_on (suc i) = ap (λ (t : State). (step residuals t (nth bs i)).state) (state_on i)
 
   run_same : {a a' : List Answer} {t t' : List Ticket} {u u' : State} → a ≡ a' → t ≡ t' → u ≡ u'
-      → ◌≡◌ {A = Run} (record { answers = a; tickets = t; state = u }) (record { answers = a'; tickets = t'; state = u' })
+      → ◌≡◌ {A = Run} (record { answered = a; tickets = t; state = u }) (record { answered = a'; tickets = t'; state = u' })
   run_same p q r = rw (p, q, r)
 
   pub run_on : run residuals s (b ∷ bs) ≡ onto (step residuals s b) (run residuals next bs)

@@ -18,7 +18,7 @@ use Rattle.answer.specs.Answer.{Answer, answers, refuses, lowest, after}
 use Rattle.sizes.proofs.Side.{side_bounds}
 use Rattle.block.specs.Lines.{column_lines, row_lines}
 use Rattle.block.proofs.Exact.{column_lines_exact, row_lines_exact}
-use Rattle.tickets.specs.Mark.{marked, mask_of, any_from, all_marked, within, with_lines}
+use Rattle.tickets.specs.Mark.{marked, mask_of, any_from, all_marked, is_among, with_lines}
 use Rattle.tickets.specs.Batch.{line_count, out_of_range, out_of_order, answer_unless, with_batch, lines_of, ticket_after, Given, batch}
 use Rattle.tickets.specs.declared.Batch.{Batch}
 use Rattle.tickets.specs.Run.{State, Step, column_step, row_step, step}
@@ -53,18 +53,18 @@ order_test false false false f = refl
 -- ---- the masks after an accepted batch
 
 columns_mask : (row : Bool) (p : ℕ → Bool) (s n : ℕ)
-    → cond row (mask_of 32 p) (with_lines (mask_of 32 p) s n) ≡ mask_of 32 (λ j. p j || (beq row false && within s n j))
+    → cond row (mask_of 32 p) (with_lines (mask_of 32 p) s n) ≡ mask_of 32 (λ j. p j || (beq row false && is_among s n j))
 unfolding with_lines
 columns_mask true p s n = mask_same 32 _ _ (λ j l. sym (or-false (p j)))
-columns_mask false p s n = mask_same 32 _ _ (λ j l. ap (λ (x : Bool). x || within s n j) (marked_mask 32 p j l))
+columns_mask false p s n = mask_same 32 _ _ (λ j l. ap (λ (x : Bool). x || is_among s n j) (marked_mask 32 p j l))
 
 rows_mask : (row : Bool) (p : ℕ → Bool) (s n : ℕ)
-    → cond row (with_lines (mask_of 32 p) s n) (mask_of 32 p) ≡ mask_of 32 (λ j. p j || (beq row true && within s n j))
+    → cond row (with_lines (mask_of 32 p) s n) (mask_of 32 p) ≡ mask_of 32 (λ j. p j || (beq row true && is_among s n j))
 unfolding with_lines
-rows_mask true p s n = mask_same 32 _ _ (λ j l. ap (λ (x : Bool). x || within s n j) (marked_mask 32 p j l))
+rows_mask true p s n = mask_same 32 _ _ (λ j l. ap (λ (x : Bool). x || is_among s n j) (marked_mask 32 p j l))
 rows_mask false p s n = mask_same 32 _ _ (λ j l. sym (or-false (p j)))
 
-covers_own : (b : Batch) (row : Bool) (j : ℕ) → b.row ≡ row → covers b row j ≡ within b.start b.lines j
+covers_own : (b : Batch) (row : Bool) (j : ℕ) → b.row ≡ row → covers b row j ≡ is_among b.start b.count j
 unfolding covers
 covers_own b true j e = rw e
 covers_own b false j e = rw e
@@ -77,12 +77,12 @@ covers_other b false j e = rw e
 -- ---- the two kinds of batch
 
 column_lines_lem : (t : Ticket) (b : Batch) (source target : List ℤ) → b.row ≡ false
-    → lines_of t b source target ≡ column_lines t.w t.h t.column_kind source b.start b.lines target
+    → lines_of t b source target ≡ column_lines t.w t.h t.column_kind source b.start b.count target
 unfolding lines_of
 column_lines_lem t b source target e = rw e
 
 row_lines_lem : (t : Ticket) (b : Batch) (source target : List ℤ) → b.row ≡ true
-    → lines_of t b source target ≡ row_lines t.w t.h t.row_kind source b.start b.lines target
+    → lines_of t b source target ≡ row_lines t.w t.h t.row_kind source b.start b.count target
 unfolding lines_of
 row_lines_lem t b source target e = rw e
 
@@ -161,28 +161,28 @@ module _ (w h ck rk : ℕ) (residuals scratch output : List ℤ) (o : Opened w h
   stays r row j = sym (ap (λ (a : Answer). done row j || (accepted a && covers b row j)) r.is ∙ or-false (done row j))
 
   -- accepted, it does its own lines
-  adds : answer ≡ answers b.lines → (row : Bool) (j : ℕ) → (done row j || covers b row j) ≡ then row j
+  adds : answer ≡ answers b.count → (row : Bool) (j : ℕ) → (done row j || covers b row j) ≡ then row j
   adds e row j = sym (ap (λ (a : Answer). done row j || (accepted a && covers b row j)) e)
 
   ticket_with : (p q : Bool → ℕ → Bool) → ((row : Bool) (j : ℕ) → j < 32 → p row j ≡ q row j) → ticket_of w h ck rk p ≡ ticket_of w h ck rk q
   unfolding ticket_of
   ticket_with p q e = rw (mask_same 32 (p false) (q false) (e false), mask_same 32 (p true) (q true) (e true))
 
-  marks_are : answer ≡ answers b.lines → with_batch t b ≡ ticket_of w h ck rk then
+  marks_are : answer ≡ answers b.count → with_batch t b ≡ ticket_of w h ck rk then
   unfolding with_batch ticket_of covers
   marks_are e =
-      rw (columns_mask b.row (done false) b.start b.lines, rows_mask b.row (done true) b.start b.lines)
+      rw (columns_mask b.row (done false) b.start b.count, rows_mask b.row (done true) b.start b.count)
       (ticket_with (λ row j. done row j || covers b row j) then (λ row j l. adds e row j))
 
   abbrev fits_in : Type 0
-  fits_in = out_of_range (line_count w h b.row) b.start b.lines ≡ false
+  fits_in = out_of_range (line_count w h b.row) b.start b.count ≡ false
 
   abbrev in_turn : Type 0
   in_turn = (b.row && not (every w (done false))) ≡ false
 
   -- what the batch gives back, where new is its buffer with the lines done after it
   batch_is : (source target new : List ℤ) → w * h ≤ length source → w * h ≤ length target
-      → (answer ≡ answers b.lines → fits_in → in_turn → lines_of t b source target ≡ new) → (Refuses answer → target ≡ new)
+      → (answer ≡ answers b.count → fits_in → in_turn → lines_of t b source target ≡ new) → (Refuses answer → target ≡ new)
       → batch t b source target ≡ record { answer = answer; ticket = ticket_of w h ck rk then; buffer = new }
   unfolding batch
   batch_is source target new ls lt written kept =
@@ -201,7 +201,7 @@ module _ (w h ck rk : ℕ) (residuals scratch output : List ℤ) (o : Opened w h
       way)
 
   -- a batch of a kind does the other kind's lines not at all, and its own where it is accepted
-  pub own : (row : Bool) → b.row ≡ row → answer ≡ answers b.lines → (j : ℕ) → (done row j || within b.start b.lines j) ≡ then row j
+  pub own : (row : Bool) → b.row ≡ row → answer ≡ answers b.count → (j : ℕ) → (done row j || is_among b.start b.count j) ≡ then row j
   own row k e j = ap (λ (x : Bool). done row j || x) (sym (covers_own b row j k)) ∙ adds e row j
 
   others : (row : Bool) → b.row ≡ not row → (j : ℕ) → done row j ≡ then row j
@@ -222,22 +222,22 @@ module _ (w h ck rk : ℕ) (residuals scratch output : List ℤ) (o : Opened w h
   pub long_output : w * h ≤ length (output_of (done true))
   long_output = omega (arith, o.block.output_long, held_length w (done true) (number_at w h ck rk residuals true) output)
 
-  pub column_written : b.row ≡ false → answer ≡ answers b.lines → fits_in → lines_of t b residuals (scratch_of (done false)) ≡ scratch_of (then false)
+  pub column_written : b.row ≡ false → answer ≡ answers b.count → fits_in → lines_of t b residuals (scratch_of (done false)) ≡ scratch_of (then false)
   unfolding ticket_of number_at
   column_written k e r =
-      let room : b.start + b.lines ≤ w = (in_range w b.start b.lines (rw k at r)).end in
+      let room : b.start + b.count ≤ w = (in_range w b.start b.count (rw k at r)).end in
       column_lines_lem t b residuals (scratch_of (done false)) k
       ∙ (column_lines_exact w h ck residuals o.block.wide o.block.high o.block.column_kernel o.small
-      b.start b.lines (scratch_of (done false)) room
-      ∙ held_more h (done false) (number_at w h ck rk residuals false) scratch b.start b.lines (omega (arith, side_bounds h o.block.high))
+      b.start b.count (scratch_of (done false)) room
+      ∙ held_more h (done false) (number_at w h ck rk residuals false) scratch b.start b.count (omega (arith, side_bounds h o.block.high))
       (le_trans (mul-le-mul_right h room) o.block.scratch_long)
       ∙ held_same h _ (then false) (number_at w h ck rk residuals false) scratch (own false k e))
 
-  pub row_written : b.row ≡ true → answer ≡ answers b.lines → fits_in → in_turn
+  pub row_written : b.row ≡ true → answer ≡ answers b.count → fits_in → in_turn
       → lines_of t b (scratch_of (done false)) (output_of (done true)) ≡ output_of (then true)
   unfolding ticket_of number_at
   row_written k e r q =
-      let room : b.start + b.lines ≤ h = (in_range h b.start b.lines (rw k at r)).end in
+      let room : b.start + b.count ≤ h = (in_range h b.start b.count (rw k at r)).end in
       let all : every w (done false) ≡ true = not-false (every w (done false)) (rw k at q) in
       row_lines_lem t b (scratch_of (done false)) (output_of (done true)) k
       ∙ (row_lines_exact w h ck residuals o.block.wide o.block.high o.block.column_kernel o.small rk o.block.row_kernel
@@ -245,8 +245,8 @@ module _ (w h ck rk : ℕ) (residuals scratch output : List ℤ) (o : Opened w h
       (λ j f bj bf.
       held_line h (done false) (number_at w h ck rk residuals false) scratch j f bf
       (omega (arith, digits_lt bj bf, o.block.scratch_long)) (every_each w (done false) all j bj))
-      b.start b.lines (output_of (done true)) room
-      ∙ held_more w (done true) (number_at w h ck rk residuals true) output b.start b.lines (omega (arith, side_bounds w o.block.wide))
+      b.start b.count (output_of (done true)) room
+      ∙ held_more w (done true) (number_at w h ck rk residuals true) output b.start b.count (omega (arith, side_bounds w o.block.wide))
       (le_trans (mul-le-mul_right w room) (omega (arith, mul_comm h w, o.block.output_long)))
       ∙ held_same w _ (then true) (number_at w h ck rk residuals true) output (own true k e))
 

@@ -17,8 +17,8 @@ use Rattle.std.specs.Prelude.{Ok, Err}
 use Rattle.answer.proofs.Answer.{passed, the_answer}
 use Rattle.sizes.specs.Size.{is_side}
 use Rattle.sizes.proofs.Side.{side_bounds}
-use Rattle.block.specs.Lines.{LinesRoom}
-use Rattle.block.proofs.LineRoom.{lines_asked}
+use Rattle.block.specs.Room.{BlockRoom}
+use Rattle.block.proofs.Room.{lines_asked}
 use Rattle.tickets.specs.Batch.{is_count, line_count, line_length, answer_unless, batch_answer, with_batch, lines_of, gives, batch}
 use Rattle.tickets.specs.declared.Batch.{Batch}
 use Rattle.tickets.specs.declared.Ticket.{Ticket}
@@ -27,14 +27,14 @@ use Rattle.tickets.proofs.Reached.{in_range}
 pub record Taken (t : Ticket) (b : Batch) (source target : ℕ) : Type 0 where
   pub wide : is_side t.w ≡ true
   pub high : is_side t.h ≡ true
-  pub counted : is_count b.lines ≡ true
-  pub ends : b.start + b.lines ≤ line_count t.w t.h b.row
+  pub counted : is_count b.count ≡ true
+  pub ends : b.start + b.count ≤ line_count t.w t.h b.row
   pub source_long : t.w * t.h ≤ source
   pub target_long : t.w * t.h ≤ target
 
 -- an accepted batch, which answers its lines: no further buffer is short
 pub taken : (short : Bool) (t : Ticket) (b : Batch) (source target n : ℕ) → answers n ≡ answer_unless short t b source target
-    → Taken t b source target × (short ≡ false) × (n ≡ b.lines)
+    → Taken t b source target × (short ≡ false) × (n ≡ b.count)
 unfolding answer_unless
 taken short t b source target n e =
     let s1 = passed _ 1 _ _ n e in
@@ -45,7 +45,7 @@ taken short t b source target n e =
     let sides = both (is_side t.w) (is_side t.h) (not-false _ s1.0) in
     let room = neither short _ s3.0 in
     let long = neither (ltb source (t.w * t.h)) (ltb target (t.w * t.h)) room.1 in
-    let range = in_range (line_count t.w t.h b.row) b.start b.lines s5.0 in
+    let range = in_range (line_count t.w t.h b.row) b.start b.count s5.0 in
     let known : Taken t b source target =
     record {
       wide = sides.0;
@@ -59,14 +59,14 @@ taken short t b source target n e =
 
 -- the lines of an accepted batch lie within its buffers
 pub batch_room : (t : Ticket) (b : Batch) {source target : ℕ} → Taken t b source target
-    → LinesRoom t.w t.h (b.start + b.lines) (line_count t.w t.h b.row) (line_length t.w t.h b.row) source target
+    → BlockRoom t.w t.h (b.start + b.count) (line_count t.w t.h b.row) (line_length t.w t.h b.row) source target
 batch_room t b k = lines_asked k.ends (whole b.row t.w t.h) k.source_long k.target_long
   where
     whole : (row : Bool) (w h : ℕ) → line_count w h row * line_length w h row ≡ w * h
     whole true w h = mul_comm h w
     whole false w h = refl
 
-pub few_lines : (t : Ticket) (b : Batch) {source target : ℕ} → Taken t b source target → b.start + b.lines ≤ 32
+pub few_lines : (t : Ticket) (b : Batch) {source target : ℕ} → Taken t b source target → b.start + b.count ≤ 32
 few_lines t b k = omega (arith, k.ends, count_few b.row (side_bounds _ k.wide).high (side_bounds _ k.high).high)
   where
     count_few : (row : Bool) {w h : ℕ} → w ≤ 32 → h ≤ 32 → line_count w h row ≤ 32

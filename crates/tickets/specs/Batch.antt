@@ -2,7 +2,7 @@
 use Rattle.std.specs.Prelude.{Bool, false, cond, not, ◌&&◌, ◌||◌, List, [], ◌∷◌, ℕ, ◌+◌, ◌*◌, ◌%◌, eqb, ltb, ℤ, length}
 use Rattle.answer.specs.Answer.{Answer, answers, refuses, lowest, after, told}
 use Rattle.sizes.specs.Size.{is_side}
-use Rattle.block.specs.Answer.{has_kinds}
+use Rattle.block.specs.Call.{has_kinds}
 use Rattle.block.specs.Lines.{column_lines, row_lines}
 use Rattle.tickets.specs.Mark.{any_from, all_marked, with_lines}
 use Rattle.tickets.specs.declared.Batch.{Batch}
@@ -11,7 +11,7 @@ use Rattle.tickets.specs.declared.Ticket.{Ticket}
 
 -- a column batch or a row batch: its first line, and how many lines
 abbrev pub batch_of : Bool → ℕ → ℕ → Batch
-batch_of row start lines = record { row = row; start = start; lines = lines }
+batch_of row start count = record { row = row; start = start; count = count }
 
 -- how many lines a block has of the batch's kind: w column lines, h row lines
 abbrev pub line_count : ℕ → ℕ → Bool → ℕ
@@ -23,13 +23,13 @@ line_length w h row = cond row w h
 
 -- "1, 4 or 8 lines"
 abbrev pub is_count : ℕ → Bool
-is_count lines = eqb lines 1 || (eqb lines 4 || eqb lines 8)
+is_count count = eqb count 1 || (eqb count 4 || eqb count 8)
 
--- number 5: "a batch isn't 1, 4 or 8 lines, a start of 4 or 8 lines isn't a multiple of 4, or its end passes the line count"
+-- number 5, for a line count of lines: "a batch isn't 1, 4 or 8 lines, a start of 4 or 8 lines isn't a multiple of 4, or its end passes the
+-- line count"
 unfoldable pub out_of_range : ℕ → ℕ → ℕ → Bool
-out_of_range count start lines =
-    not (is_count lines)
-    || (((eqb lines 4 || eqb lines 8) && not (eqb (start % 4) 0)) || ltb count (start + lines))
+out_of_range lines start count =
+    not (eqb count 1 || ((eqb count 4 || eqb count 8) && eqb (start % 4) 0)) || ltb lines (start + count)
 
 -- number 6: "a ticket has a mark past its line count; or has row marks with a column unmarked; or a row batch is asked with a
 -- column unmarked"
@@ -46,9 +46,9 @@ answer_unless short t b source target =
     ((not (is_side t.w && is_side t.h), 1) ∷
     (not (has_kinds t.w t.h t.column_kind t.row_kind), 2) ∷
     (short || (ltb source (t.w * t.h) || ltb target (t.w * t.h)), 3) ∷
-    (out_of_range (line_count t.w t.h b.row) b.start b.lines, 5) ∷
+    (out_of_range (line_count t.w t.h b.row) b.start b.count, 5) ∷
     (out_of_order t b.row, 6) ∷ [])
-    b.lines
+    b.count
 
 -- a batch has no further buffer
 abbrev pub batch_answer : Ticket → Batch → ℕ → ℕ → Answer
@@ -62,16 +62,16 @@ with_batch t b =
       h = t.h;
       column_kind = t.column_kind;
       row_kind = t.row_kind;
-      columns = cond b.row t.columns (with_lines t.columns b.start b.lines);
-      rows = cond b.row (with_lines t.rows b.start b.lines) t.rows;
+      columns = cond b.row t.columns (with_lines t.columns b.start b.count);
+      rows = cond b.row (with_lines t.rows b.start b.count) t.rows;
     }
 
 -- "An accepted column batch writes its scratch lines"; "an accepted row batch writes its scaled output lines"
 unfoldable pub lines_of : Ticket → Batch → List ℤ → List ℤ → List ℤ
 lines_of t b source target =
     cond b.row
-    (row_lines t.w t.h t.row_kind source b.start b.lines target)
-    (column_lines t.w t.h t.column_kind source b.start b.lines target)
+    (row_lines t.w t.h t.row_kind source b.start b.count target)
+    (column_lines t.w t.h t.column_kind source b.start b.count target)
 
 -- an answer, a ticket and the buffer that a call writes
 pub record Given : Type 0 where

@@ -6,7 +6,7 @@ use Rattle.laws.specs.Store.{tab}
 use Rattle.laws.specs.Table.{every}
 use Rattle.answer.specs.Answer.{Answer, answers, refuses, lowest}
 use Rattle.block.specs.Block.{column_at, row_at}
-use Rattle.tickets.specs.Mark.{mask_of, within}
+use Rattle.tickets.specs.Mark.{mask_of, is_among}
 use Rattle.tickets.specs.Batch.{line_count, out_of_range}
 use Rattle.tickets.specs.declared.Batch.{Batch}
 use Rattle.tickets.specs.Open.{open_answer, new_ticket}
@@ -15,7 +15,7 @@ use Rattle.tickets.specs.declared.Ticket.{Ticket}
 
 -- "A column batch covers column lines, a row batch row lines: as many as it names, from its start."
 unfoldable pub covers : Batch → Bool → ℕ → Bool
-covers b row j = beq b.row row && within b.start b.lines j
+covers b row j = beq b.row row && is_among b.start b.count j
 
 -- "number 5 is given exactly by its own rule; otherwise number 6 exactly to a row batch with a column line that no accepted column
 -- batch before it in the list covers; every other batch is accepted and answers the number of its lines". done j: such a batch
@@ -23,9 +23,9 @@ covers b row j = beq b.row row && within b.start b.lines j
 unfoldable pub answer_to : ℕ → ℕ → (ℕ → Bool) → Batch → Answer
 answer_to w h done b =
     lowest
-    ((out_of_range (line_count w h b.row) b.start b.lines, 5) ∷
+    ((out_of_range (line_count w h b.row) b.start b.count, 5) ∷
     (b.row && not (every w done), 6) ∷ [])
-    b.lines
+    b.count
 
 abbrev pub accepted : Answer → Bool
 accepted (answers n) = true
@@ -77,7 +77,7 @@ state_of w h ck rk residuals scratch output done =
 unfoldable pub settled : ℕ → ℕ → ℕ → ℕ → List ℤ → List ℤ → List ℤ → List Batch → Run
 settled w h ck rk residuals scratch output bs =
     record {
-      answers = tab (length bs) (λ i. answer_to w h (covered w h bs i false) (nth bs i));
+      answered = tab (length bs) (λ i. answer_to w h (covered w h bs i false) (nth bs i));
       tickets = tab (length bs) (λ i. ticket_of w h ck rk (covered w h bs (suc i)));
       state = state_of w h ck rk residuals scratch output (covered w h bs (length bs));
     }

@@ -20,4 +20,4 @@ abbrev pub ListAnswers : Type 0
 ListAnswers =
     Condition3 → (r : Batched) → Opening 8 4 0 0 (zeros 32) 32 32 r
     → (told r.outcome ≡ answers 0)
-    × ((run (zeros 32) (state_at r.ticket (zeros 32) (zeros 32)) list).answers ≡ refuses 6 ∷ refuses 5 ∷ answers 8 ∷ answers 4 ∷ [])
+    × ((run (zeros 32) (state_at r.ticket (zeros 32) (zeros 32)) list).answered ≡ refuses 6 ∷ refuses 5 ∷ answers 8 ∷ answers 4 ∷ [])

@@ -5,6 +5,5 @@ pub mod Open
 pub mod Run
 pub mod Condition3
 pub mod Play
-pub mod Reading
 pub mod ByPlace
 pub mod Examples

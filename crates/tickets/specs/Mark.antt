@@ -21,9 +21,9 @@ unfoldable pub all_marked : ℕ → ℕ → Bool
 all_marked n mask = every n (marked mask)
 
 -- line j is one of n lines from start on
-unfoldable pub within : ℕ → ℕ → ℕ → Bool
-within start n j = leb start j && ltb j (start + n)
+unfoldable pub is_among : ℕ → ℕ → ℕ → Bool
+is_among start n j = leb start j && ltb j (start + n)
 
 -- the mask with n lines from start on marked, and every mark that it has
 unfoldable pub with_lines : ℕ → ℕ → ℕ → ℕ
-with_lines mask start n = mask_of 32 (λ j. marked mask j || within start n j)
+with_lines mask start n = mask_of 32 (λ j. marked mask j || is_among start n j)

@@ -1,7 +1,7 @@
 -- Opening: "Opening looks at the residuals, the scratch and the output, answers a ticket with no marks and writes nothing."
 use Rattle.std.specs.Prelude.{◌≡◌, List, ℕ, ℤ}
 use Rattle.answer.specs.Answer.{Answer, lowest, told}
-use Rattle.block.specs.Answer.{refusals}
+use Rattle.block.specs.Call.{refusals}
 use Rattle.tickets.specs.Batch.{ticket_after}
 use Rattle.tickets.specs.declared.Batched.{Batched}
 use Rattle.tickets.specs.declared.Ticket.{Ticket}

@@ -43,14 +43,14 @@ state_after residuals s bs (suc i) = (step residuals (state_after residuals s bs
 
 -- what each batch of a list gives back, and what the whole list leaves
 pub record Run : Type 0 where
-  pub answers : List Answer
+  pub answered : List Answer
   pub tickets : List Ticket
   pub state : State
 
 unfoldable pub run : List ℤ → State → List Batch → Run
 run residuals s bs =
     record {
-      answers = tab (length bs) (λ i. (step residuals (state_after residuals s bs i) (nth bs i)).answer);
+      answered = tab (length bs) (λ i. (step residuals (state_after residuals s bs i) (nth bs i)).answer);
       tickets = tab (length bs) (λ i. (state_after residuals s bs (suc i)).ticket);
       state = state_after residuals s bs (length bs);
     }

@@ -96,12 +96,12 @@ pub fn columns(
     residuals: &[i32],
     scratch: &mut [i32],
     start: usize,
-    lines: usize,
+    count: usize,
 ) -> Lent
-    ensures { SignedKept (columns_in given room tile (batch_of false start lines) residuals.now scratch.old)
+    ensures { SignedKept (columns_in given room tile (batch_of false start count) residuals.now scratch.old)
         result.number result.plane scratch.new }
 {
-    let done = plane::tile_columns(given, room, tile, residuals, scratch, start, lines);
+    let done = plane::tile_columns(given, room, tile, residuals, scratch, start, count);
     Lent::new(done)
 }
 
@@ -112,11 +112,11 @@ pub fn rows(
     scratch: &[i32],
     output: &mut [i32],
     start: usize,
-    lines: usize,
+    count: usize,
 ) -> Lent
-    ensures { SignedKept (rows_in given room tile (batch_of true start lines) scratch.now output.old)
+    ensures { SignedKept (rows_in given room tile (batch_of true start count) scratch.now output.old)
         result.number result.plane output.new }
 {
-    let done = plane::tile_rows(given, room, tile, scratch, output, start, lines);
+    let done = plane::tile_rows(given, room, tile, scratch, output, start, count);
     Lent::new(done)
 }

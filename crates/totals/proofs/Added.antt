@@ -15,7 +15,7 @@ use Rattle.format.specs.Format.{Block, block_in, record_answer}
 use Rattle.look.specs.Look.{listed_count, listed_sum}
 use Rattle.laws.proofs.Part.{rest_is}
 use Rattle.look.proofs.Looks.{told_record}
-use Rattle.look.proofs.Passed.{Passed, passed_none, passed_damage, passed_more, passed_all, more_room, taken}
+use Rattle.look.proofs.Passed.{Passed, passed_none, passed_damage, passed_more, passed_all, taken}
 use Rattle.format.proofs.Number.{number_small}
 use Rattle.format.proofs.Record.{length_in_lem, block_in_lem}
 use Rattle.totals.specs.Totals.{nonzero_in, level_count, magnitude_in, magnitude_sum, totals, refused, report_of}
@@ -65,9 +65,6 @@ module _ {s : List ℕ} {at low count levels magnitude : ℕ} (a : Added s at lo
           levels_fit = omega (arith, fits.0, n, a.levels_fit, ok.1, length_in_lem t b ok.0);
           magnitude_fits = omega (arith, fits.1, n, g, a.magnitude_fits);
         })
-
-    pub added_room : (5 ≤ m) × (at + m ≤ length s)
-    added_room = let r = more_room a.passed h (told_record s low at e) in (r.0, r.1)
 
     -- the totals with it fit 64 bits
     pub added_small : length s < 2 ^ 36 → {k g : ℕ} → k ≡ listed_count (take (length s - at) (drop at s))

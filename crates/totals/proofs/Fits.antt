@@ -77,13 +77,13 @@ found_most low zero (x ∷ s) =
     one_more (answers n) b (damage k) h = omega arith
     one_more (refuses k) b f h = omega arith
 
+pub no_refusal : {X : Type 0} {b l m k : ℕ} → totals b l m ≡ refused k → X
+no_refusal e = absurd (let z : ◌≡◌ {A = ℕ} 0 1 = cc in omega arith)
+
 pub blocks_small : (s : List ℕ) (b l m : ℕ) → totals b l m ≡ report_of s → b < 2 ^ 63
 unfolding report_of parse
 blocks_small s b l m e = by (is_long s) refl (found_from 0 0 s) (found_most 0 0 s) e
   where
-    no_refusal : {X : Type 0} {k : ℕ} → totals b l m ≡ refused k → X
-    no_refusal e = absurd (let z : ◌≡◌ {A = ℕ} 0 1 = cc in omega arith)
-
     by : (t : Bool) → is_long s ≡ t → (f : Found) → length (list_found f) ≤ length s → totals b l m ≡ cond t (refused 16) (totals_of f) → b < 2 ^ 63
     by true u f h e = no_refusal e
     by false u (blocks bs) h e = let same : b ≡ length bs = cc in omega (arith, leb-false (2 ^ 36) (length s) u)

@@ -52,7 +52,7 @@ report_of s = cond (is_long s) (refused 16) (totals_of (parse s))
 
 -- ---- what holds of every report
 
--- below that none can: a level that isn't zero has four bytes, and its magnitude is at most 2^30
+-- in a file below 2^36 bytes no sum passes 64 bits: a level that isn't zero has four bytes, and its magnitude is at most 2^30
 abbrev pub SumFits : Type 0
 SumFits = (bs : List Block) → are_blocks 0 bs ≡ true → (4 * level_count bs ≤ length (bytes_of bs)) × (magnitude_sum bs ≤ 2 ^ 30 * level_count bs)
 

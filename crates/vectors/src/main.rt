@@ -46,7 +46,7 @@ fn replay(rt: &impl Print, list: &[u8]) -> io::Result<()> {
     let mut numbers = [Number::ZERO; 4608];
     for count in 0..65536u64 {
         let Some(word) = words.next() else {
-            return println!(rt; "{count} answers of the Rust, no difference");
+            return println!(rt; "{count} records, no difference");
         };
         let kind = kind_of(word);
         let same = match (Number::parse(word), record::read(&mut words, &mut numbers)) {

@@ -1,18 +1,18 @@
 -- Straight-line code on signed numbers of 32 bits that do not wrap. `Holds n z b` says that the bits n are those of z, whose size is at most b;
 -- each operation has the fact that it fits, and the `Holds` of its result. Assumes nothing.
-use mathlib.Core.Path.{◌≡◌, refl, sym, ap, ap₂, ◌∙◌, subst}
+use mathlib.Core.Path.{◌≡◌, sym, ap, ap₂, ◌∙◌, subst}
 use Prim.Native.Nat.{ℕ, ◌+◌, ◌^◌, ◌≤◌, ◌<◌}
 use native.Mathlib.Nat.{le_trans, lt_of_le_of_lt}
 use native.Mathlib.Omega.{arith}
 use lib.Dec.{T, ltb, ltb→lt}
-use lib.IntN.{ℤ, pos, negsuc, nat_abs, ◌+ℤ◌, ◌-ℤ◌}
+use lib.IntN.{ℤ, nat_abs, ◌+ℤ◌, ◌-ℤ◌}
 use lib.Signed.{shr_z}
 use mir.Syntax.{w32}
 use mir.Val.{SFits, to_z, of_z}
 use mir.Facts.{to_z-of_z}
 use Rattle.laws.specs.Integer.{floor_div}
-use Rattle.laws.proofs.Size.{nat_abs-+ℤ, mag_nat_abs}
-use Rattle.wht.proofs.Size.{nat_abs_sub, nat_abs_half}
+use Rattle.laws.proofs.Divide.{nat_abs_floor_div, shr_floor}
+use Rattle.laws.proofs.Size.{nat_abs-+ℤ, nat_abs_sub, mag_nat_abs}
 
 -- the machine's operations, on bits
 abbrev pub plus : ℕ → ℕ → ℕ
@@ -59,13 +59,9 @@ module _ {m n : ℕ} {x y : ℤ} {a b : ℕ} (p : Holds m x a) (q : Holds n y b)
   pub subtracted : Holds (minus m n) (x -ℤ y) (a + b)
   subtracted = op_holds ◌-ℤ◌ nat_abs_sub p q t
 
-shr_floor : (z : ℤ) (m : ℕ) → shr_z z m ≡ floor_div z m
-shr_floor (pos n) m = refl
-shr_floor (negsuc n) m = refl
-
 pub halved : {m : ℕ} {x : ℤ} {a : ℕ} → Holds m x a → T (ltb a (2 ^ 31)) → Holds (half m) (floor_div x 2) a
 halved {m} {x} {a} p t =
-    let small = le_trans (nat_abs_half x) p.size in
+    let small = le_trans (nat_abs_floor_div x 2) p.size in
     let is = ap (λ (z : ℤ). shr_z z 2) p.is ∙ shr_floor x 2 in
     record { is = ap (λ (z : ℤ). to_z w32 (of_z w32 z)) is ∙ to_z-of_z (small_fits small (ltb→lt a (2 ^ 31) t)); size = small }
 

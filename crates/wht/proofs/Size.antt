@@ -1,26 +1,18 @@
 -- How large the numbers of a WHT can be. Assumes nothing.
-use mathlib.Core.Path.{subst}
-use Prim.Native.Nat.{ℕ, zero, suc, ◌+◌, ◌*◌, ◌≤◌}
-use native.Mathlib.Nat.{div-le_self}
+use Prim.Native.Nat.{ℕ, zero, suc, ◌*◌, ◌≤◌}
 use native.Mathlib.Omega.{arith}
 use lib.Dec.{lit≤}
-use lib.IntN.{ℤ, pos, negsuc, neg_ℤ, nat_abs, ◌+ℤ◌, ◌-ℤ◌}
+use lib.IntN.{ℤ, pos, nat_abs, ◌+ℤ◌, ◌-ℤ◌}
 use lib.ListN.{get_or}
 use Rattle.laws.specs.Integer.{floor_div}
-use Rattle.laws.proofs.Size.{nat_abs-+ℤ, nat_abs_neg_ℤ}
+use Rattle.laws.proofs.Divide.{nat_abs_floor_div}
+use Rattle.laws.proofs.Size.{nat_abs-+ℤ, nat_abs_sub}
 use Rattle.wht.specs.Wht.{wht_four, line_of}
-
-pub nat_abs_sub : (a b : ℤ) → nat_abs (a -ℤ b) ≤ nat_abs a + nat_abs b
-nat_abs_sub a b = subst (λ (n : ℕ). nat_abs (a -ℤ b) ≤ nat_abs a + n) (nat_abs_neg_ℤ b) (nat_abs-+ℤ a (neg_ℤ b))
-
-pub nat_abs_half : (z : ℤ) → nat_abs (floor_div z 2) ≤ nat_abs z
-nat_abs_half (pos n) = div-le_self n 2
-nat_abs_half (negsuc n) = omega (arith, div-le_self n 2)
 
 module _ (b : ℕ) (p q r s : ℤ) (hp : nat_abs p ≤ b) (hq : nat_abs q ≤ b) (hr : nat_abs r ≤ b) (hs : nat_abs s ≤ b) where
   half_size : nat_abs (floor_div (p +ℤ q +ℤ r -ℤ s) 2) ≤ 4 * b
   half_size =
-      omega (arith, nat_abs_half (p +ℤ q +ℤ r -ℤ s), nat_abs_sub (p +ℤ q +ℤ r) s, nat_abs-+ℤ (p +ℤ q) r, nat_abs-+ℤ p q)
+      omega (arith, nat_abs_floor_div (p +ℤ q +ℤ r -ℤ s) 2, nat_abs_sub (p +ℤ q +ℤ r) s, nat_abs-+ℤ (p +ℤ q) r, nat_abs-+ℤ p q)
 
   four_size : (f : ℕ) → nat_abs (get_or (wht_four p q r s) f (pos 0)) ≤ 7 * b
   unfolding wht_four

@@ -1,4 +1,4 @@
--- What one pass of the code leaves: two passes make the columns, then the rows, of a block.
+-- What one pass of the code leaves: two passes make the columns, then the rows, of a block. No public contract mentions it.
 use Rattle.std.specs.Prelude.{List, ℕ, ◌+◌, ◌*◌, ◌/◌, ◌%◌, ◌≤◌, ◌<◌, ℤ, pos, nat_abs, get_or}
 use Rattle.wht.specs.Wht.{line_of}
 

@@ -15,8 +15,9 @@ use Rattle.answer.proofs.Answer.{passed, small_if, guarded_small}
 use Rattle.answer.specs.Answer.{answers, refuses, lowest, is_small}
 use Rattle.sizes.specs.Size.{is_side}
 use Rattle.format.specs.Format.{bytes_of}
-use Rattle.writer.specs.Writing.{place_at, blocks_in, length_to, are_sides, is_short, are_near, is_rising, by_buffers, write_answer}
+use Rattle.writer.specs.Write.{place_at, blocks_in, length_to, are_sides, is_short, is_rising, by_buffers, write_answer}
 use Rattle.writer.proofs.Blocks.{length_to_lem}
+use Rattle.format.specs.Pieces.{are_near}
 
 -- ---- number 3, as the code tests it
 
@@ -73,15 +74,15 @@ module _ (count : ℕ) (numbers sides : List ℕ) (levels : List ℤ) (room : �
     says_3 v = rw (u, v)
 
     module _ (v : is_short count numbers sides levels room ≡ false) where
-      pub says_11 : are_near count sides levels ≡ false → refuses 11 ≡ lowest (by_buffers count numbers sides levels room) 0
+      pub says_11 : are_near (place_at sides count) levels ≡ false → refuses 11 ≡ lowest (by_buffers count numbers sides levels room) 0
       unfolding lowest
       says_11 w = rw (u, v, w)
 
-      pub says_12 : are_near count sides levels ≡ true → is_rising count numbers ≡ false → refuses 12 ≡ lowest (by_buffers count numbers sides levels room) 0
+      pub says_12 : are_near (place_at sides count) levels ≡ true → is_rising count numbers ≡ false → refuses 12 ≡ lowest (by_buffers count numbers sides levels room) 0
       unfolding lowest
       says_12 w x = rw (u, v, w, x)
 
-      pub says_none : are_near count sides levels ≡ true → is_rising count numbers ≡ true → answers 0 ≡ lowest (by_buffers count numbers sides levels room) 0
+      pub says_none : are_near (place_at sides count) levels ≡ true → is_rising count numbers ≡ true → answers 0 ≡ lowest (by_buffers count numbers sides levels room) 0
       unfolding lowest
       says_none w x = rw (u, v, w, x)
 
@@ -93,7 +94,7 @@ module _ (count : ℕ) (numbers sides : List ℕ) (levels : List ℤ) (room : �
     pub sided : every (2 * count) (λ i. is_side (get_or sides i 0)) ≡ true
     pub placed : place_at sides count ≤ length levels
     pub fits : length_to sides levels count ≤ room
-    pub near : are_near count sides levels ≡ true
+    pub near : are_near (place_at sides count) levels ≡ true
     pub rising : is_rising count numbers ≡ true
 
   pub admitted : (m n : ℕ) → answers m ≡ lowest (by_buffers count numbers sides levels room) n → Admitted
@@ -124,5 +125,5 @@ module _ (count : ℕ) (numbers sides : List ℕ) (levels : List ℤ) (room : �
       let short = few' || (ltb (length levels) (place_at sides count) || ltb room n) in
       small_if (not (are_sides count sides)) 1 _
       (λ a.
-      guarded_small short 3 ((not (are_near count sides levels), 11) ∷ (not (is_rising count numbers), 12) ∷ []) n
+      guarded_small short 3 ((not (are_near (place_at sides count) levels), 11) ∷ (not (is_rising count numbers), 12) ∷ []) n
       (λ e. omega (arith, ltb-false room n (neither (ltb (length levels) (place_at sides count)) (ltb room n) (neither few' _ e).1).1)))

@@ -1,16 +1,13 @@
 -- Levels written from the last to the first: what a loop knows that puts the bytes of some before those that follow. Assumes nothing.
-use mathlib.Core.Bool.{Bool, true, false, cond}
 use mathlib.Core.List.{List, [], ◌++◌, append_assoc}
 use mathlib.Core.Path.{◌≡◌, refl, sym, ap, ◌∙◌}
-use Prim.Native.Nat.{ℕ, suc, ◌+◌, ◌-◌, ◌*◌, ◌≤◌, ◌<◌}
+use Prim.Native.Nat.{ℕ, suc, ◌+◌, ◌-◌, ◌≤◌, ◌<◌}
 use native.Mathlib.Omega.{arith}
 use lib.IntN.{ℤ}
 use lib.ListN.{length, take, drop, length-append}
 use lib.Seq.{take-take}
-use Rattle.laws.proofs.Pasted.{pasted_before, pasted_from, pasted_behind}
-use Rattle.laws.specs.Store.{pasted}
 use Rattle.format.proofs.Listed.{listed_split, listed_same}
-use Rattle.format.specs.Pieces.{four, word_of, stands, bytes_for, listed}
+use Rattle.format.specs.Pieces.{bytes_for, listed}
 
 -- of n levels those from i on are put before end of d: out, where they begin at place to. Four bytes before them may be spoilt
 pub record Put (level : ℕ → ℤ) (n : ℕ) (d : List ℕ) (end i : ℕ) (out : List ℕ) (to : ℕ) : Type 0 where
@@ -19,9 +16,6 @@ pub record Put (level : ℕ → ℤ) (n : ℕ) (d : List ℕ) (end i : ℕ) (out
   pub is : listed i level ++ drop to out ≡ listed n level ++ drop end d
   pub kept : take (end - length (listed n level) - 4) out ≡ take (end - length (listed n level) - 4) d
   pub long : length out ≡ length d
-
-pub put_none : {level : ℕ → ℤ} {n : ℕ} {d : List ℕ} {end : ℕ} → Put level n d end n d end
-put_none = record { at = refl; low = omega arith; is = refl; kept = refl; long = refl }
 
 -- a turn: l, the bytes of the levels from i to j, is put before them
 pub put_more : {level : ℕ → ℤ} {n : ℕ} {d : List ℕ} {end j : ℕ} {out : List ℕ} {to : ℕ} (i k : ℕ) (l : List ℕ) {out' : List ℕ} {r : ℕ}
@@ -51,19 +45,6 @@ some_more j n level part same =
 pub listed_nil : (level : ℕ → ℤ) → listed 0 level ≡ []
 unfolding listed
 listed_nil level = refl
-
--- a level that is put before a place, by four bytes and a step of 4 or 0
-pub level_put : (d out : List ℕ) (end : ℕ) (l : ℤ) {b : ℕ} → 4 ≤ end → end ≤ length d → out ≡ pasted d (end - 4) (four (word_of l)) → b ≡ cond (stands l) 1 0
-    → (end - 4 * b + length (bytes_for l) ≡ end) × ((take (end - 4) out ≡ take (end - 4) d) × (drop (end - 4 * b) out ≡ bytes_for l ++ drop end d))
-level_put d out end l {b} low room e f =
-    let z = by (stands l) in
-    rw f (z.0, (ap (take (end - 4)) e ∙ pasted_before d (end - 4) (end - 4) (four (word_of l)) (omega arith) (omega arith), z.1))
-  where
-    by : (t : Bool) → (end - 4 * cond t 1 0 + length (cond t (four (word_of l)) []) ≡ end) × (drop (end - 4 * cond t 1 0) out ≡ cond t (four (word_of l)) [] ++ drop end d)
-    by true =
-        let k : end - 4 + 4 ≡ end = omega arith in
-        (k, ap (drop (end - 4)) e ∙ pasted_from d (end - 4) (four (word_of l)) (omega arith) ∙ ap (λ (n : ℕ). four (word_of l) ++ drop n d) k)
-    by false = let k : end - 0 ≡ end = omega arith in (omega arith, ap (λ (n : ℕ). drop n out) k ∙ ap (drop end) e ∙ pasted_behind d (end - 4) end (four (word_of l)) (omega arith) (omega arith))
 
 -- what is put, as the contracts say it
 abbrev Written : (ℕ → ℤ) → ℕ → List ℕ → ℕ → List ℕ → ℕ → Type 0

@@ -1,21 +1,18 @@
 -- The blocks that lent buffers hold: their records and their bytes, one block after the other. Assumes nothing.
 use mathlib.Core.Bool.{true, false, not, ◌||◌, or-true}
-use mathlib.Core.List.{List, [], ◌∷◌, ◌++◌, append-nil}
+use mathlib.Core.List.{List, [], ◌∷◌, ◌++◌}
 use mathlib.Core.Path.{◌≡◌, refl, sym, ap, ap₂, ◌∙◌}
-use Prim.Native.Nat.{ℕ, zero, suc, ◌+◌, ◌-◌, ◌*◌, ◌/◌, ◌%◌, ◌≤◌, ◌<◌}
-use native.Mathlib.Nat.{zero-add}
+use Prim.Native.Nat.{ℕ, zero, suc, ◌+◌, ◌-◌, ◌*◌, ◌/◌, ◌≤◌, ◌<◌}
 use native.Mathlib.Numerals.{add-one}
-use borrow.Rule.Slice.PartMut.{put_mid}
-use Rattle.laws.proofs.Part.{rest_is}
 use native.Mathlib.Omega.{arith}
 use borrow.Author.Tests.{lt-ltb, le-ltb, ltb-false, not-true}
 use lib.Dec.{ltb}
 use lib.IntN.{ℤ, pos}
-use lib.ListN.{length, get_or, set, take, drop, length-append, length-drop, drop_of_length-le}
-use lib.Seq.{get_or-take, get_or-drop, length-take-le, drop-drop}
+use lib.ListN.{length, get_or, set, take, drop, length-append, length-drop}
+use lib.Seq.{get_or-take, get_or-drop, length-take-le}
 use Rattle.laws.proofs.Bool.{neither}
 use Rattle.laws.proofs.Every.{every_each}
-use Rattle.laws.proofs.Pasted.{pasted_set, pasted_both, pasted_first, length_pasted, spliced}
+use Rattle.laws.proofs.Pasted.{pasted_set, pasted_both, pasted_first}
 use Rattle.laws.proofs.Sum.{sum_within}
 use Rattle.laws.specs.Store.{tab, over, pasted}
 use Rattle.laws.specs.Sum.{sum_ℕ}
@@ -23,8 +20,8 @@ use Rattle.laws.specs.Table.{every}
 use Rattle.sizes.specs.Size.{is_side}
 use Rattle.format.specs.Pieces.{four, side_byte, map_of, listed}
 use Rattle.format.specs.Format.{level_of, record_of, bytes_of}
-use Rattle.writer.specs.Writing.{level_at, block_of, level_from, block_from, places_at, place_at, block_at, blocks_in, length_to}
-use Rattle.format.proofs.Bits.{map_same, map_length}
+use Rattle.writer.specs.Write.{level_at, block_of, level_from, block_from, places_at, place_at, block_at, blocks_in, length_to}
+use Rattle.format.proofs.Bits.{map_length}
 use Rattle.format.proofs.Listed.{listed_same}
 use Rattle.format.proofs.Parse.{bytes_more}
 use Rattle.format.proofs.Record.{record_length}
@@ -64,34 +61,12 @@ pub block_part : (number w h : ℕ) (levels : List ℤ) (place m : ℕ) → m �
 unfolding block_from
 block_part number w h levels place m e = ap (λ (k : ℕ). block_of number w h (take k (drop place levels))) e
 
--- bytes put at the front of the rest of a buffer
-pub rest_put : (out rec : List ℕ) (at : ℕ) {new : List ℕ} → at + length rec ≤ length out → new ≡ over rec (take (length out - at) (drop at out))
-    → put_mid at (length out - at) out new ≡ pasted out at rec
-unfolding pasted
-rest_put out rec at {new} room e =
-    let t = drop at out in
-    let all = over rec t in
-    let long : at + length all ≡ length out = omega (arith, length_pasted t 0 rec (omega (arith, length-drop at out)), length-drop at out) in
-    ap (λ (l : List ℕ). put_mid at (length out - at) out l) (e ∙ ap (over rec) (rest_is out at))
-    ∙ spliced out all at (length out) (sym long)
-    ∙ ap (λ (r : List ℕ). take at out ++ (all ++ r)) (drop_of_length-le out (omega (arith, long)))
-    ∙ ap (λ (r : List ℕ). take at out ++ r) (append-nil all ∙ ap (λ (k : ℕ). rec ++ drop k t) (zero-add (length rec)) ∙ ap (λ (r : List ℕ). rec ++ r) (drop-drop (length rec) at out))
-
 -- ---- a block's record, with the levels where they lie
 
 module _ (number w h : ℕ) (levels : List ℤ) (place : ℕ) where
   pub level_from_lem : (p : ℕ) → p < w * h → level_of (block_from number w h levels place) p ≡ level_from levels place p
   unfolding block_from
   level_from_lem p b = get_or-take (w * h) (drop place levels) p (pos 0) b ∙ get_or-drop place levels p (pos 0)
-
-  pub record_from : (w * h) % 8 ≡ 0
-      → record_of (block_from number w h levels place)
-      ≡ four number ++ ((side_byte w h ∷ []) ++ (map_of (w * h) (level_from levels place) ++ listed (w * h) (level_from levels place)))
-  unfolding record_of block_from
-  record_from e =
-      ap₂ (λ (m l : List ℕ). four number ++ ((side_byte w h ∷ []) ++ (m ++ l)))
-      (map_same (w * h) (level_of (block_from number w h levels place)) (level_from levels place) e level_from_lem)
-      (listed_same (w * h) (level_of (block_from number w h levels place)) (level_from levels place) level_from_lem)
 
   pub from_length : length (record_of (block_from number w h levels place)) ≡ 5 + w * h / 8 + length (listed (w * h) (level_from levels place))
   unfolding block_from

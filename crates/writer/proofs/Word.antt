@@ -1,7 +1,7 @@
 -- What the code asks of a level: whether it is zero, as a byte, and whether it is near. Assumes nothing.
 use mathlib.Core.Bool.{Bool, true, false, cond, not, and-true}
 use mathlib.Core.Path.{◌≡◌, refl, sym, ap, ◌∙◌}
-use Prim.Native.Nat.{suc, ◌-◌, ◌^◌, ◌≤◌, ◌<◌}
+use Prim.Native.Nat.{suc, ◌-◌, ◌^◌, ◌<◌}
 use native.Mathlib.Omega.{arith}
 use borrow.Author.Tests.{ne_eqb}
 use lib.Dec.{eqb, leb, leb-suc-suc}
@@ -17,10 +17,6 @@ use Rattle.format.specs.Pieces.{is_near, stands}
 byte_is : (b : Bool) → bool_byte b ≡ cond b 1 0
 byte_is true = refl
 byte_is false = refl
-
-pub byte_one : (b : Bool) → bool_byte b ≤ 1
-byte_one true = omega arith
-byte_one false = omega arith
 
 nonzero : (l : ℤ) → mag l < 2 ^ 31 → not (eqb (of_z w32 l) 0) ≡ stands l
 nonzero (pos n) h = refl

@@ -4,7 +4,7 @@ ghost use Rattle.laws.specs.Table.{every};
 ghost use Rattle.answer.specs.Answer.{answers, refuses, number_of, lowest};
 ghost use Rattle.sizes.specs.Size.{is_side};
 ghost use Rattle.format.specs.Pieces.{listed};
-ghost use Rattle.writer.specs.Writing.{level_at, place_at, length_to, is_rising, by_buffers};
+ghost use Rattle.writer.specs.Write.{level_at, place_at, length_to, is_rising, by_buffers};
 
 use answer::Refusal;
 

@@ -8,7 +8,7 @@ ghost use Rattle.answer.specs.Answer.{told};
 ghost use Rattle.sizes.specs.Size.{is_side};
 ghost use Rattle.format.specs.Pieces.{side_byte, packed, stands, map_of, bytes_for, listed};
 ghost use Rattle.format.specs.Format.{record_of, bytes_of};
-ghost use Rattle.writer.specs.Writing.{level_at, block_of, place_at, blocks_in, length_to, write_answer, bytes_after};
+ghost use Rattle.writer.specs.Write.{level_at, block_of, place_at, blocks_in, length_to, write_answer, bytes_after};
 
 use super::admit;
 use answer::Outcome;

@@ -82,13 +82,13 @@ pub fn any_number(random: &mut Random, plane: &Plane, room: u32) -> usize {
 fn next_batch(random: &mut Random, ticket: &Ticket) -> Batch {
     let columns = first_lines(ticket.w.min(32));
     let row = ticket.columns & columns == columns;
-    let (count, marks) = if row { (ticket.h, ticket.rows) } else { (ticket.w, ticket.columns) };
-    let count = count.clamp(4, 32);
-    let left: Vec<usize> = (0..count).filter(|j| marks >> j & 1 == 0).collect();
-    let line = if left.is_empty() { random.below(count) } else { random.pick(&left) };
-    let lines = random.pick(&[1, 4, 8, 8, 8]).min(count);
-    let start = if lines == 1 { line } else { (line / 4 * 4).min(count - lines) };
-    Batch { row, start, lines }
+    let (lines, marks) = if row { (ticket.h, ticket.rows) } else { (ticket.w, ticket.columns) };
+    let lines = lines.clamp(4, 32);
+    let left: Vec<usize> = (0..lines).filter(|j| marks >> j & 1 == 0).collect();
+    let line = if left.is_empty() { random.below(lines) } else { random.pick(&left) };
+    let count = random.pick(&[1, 4, 8, 8, 8]).min(lines);
+    let start = if count == 1 { line } else { (line / 4 * 4).min(lines - count) };
+    Batch { row, start, count }
 }
 
 /// The site at a free place, if one is found in a few tries; at times beside or over a tile, misplaced or

@@ -94,14 +94,14 @@ impl TileCall {
             }
             Action::Close(tile) => rules::close(plane, self.room, *tile),
             Action::Batch(tile, batch) if batch.row => {
-                let lines = rules::batch(plane, (self.room, *tile), batch, [scratch, all])?;
+                let count = rules::batch(plane, (self.room, *tile), batch, [scratch, all])?;
                 write_rows(plane, &plane.tiles[*tile], batch, &work.scratch.rules, &mut output.rules);
-                Ok(lines)
+                Ok(count)
             }
             Action::Batch(tile, batch) => {
-                let lines = rules::batch(plane, (self.room, *tile), batch, [given, scratch])?;
+                let count = rules::batch(plane, (self.room, *tile), batch, [given, scratch])?;
                 write_columns(&plane.tiles[*tile], batch, work);
-                Ok(lines)
+                Ok(count)
             }
         }
     }
@@ -114,11 +114,11 @@ impl TileCall {
         let answer = match self.action {
             Action::Open(site, _) => mizdrek::open_tile(plane, self.room, site, residuals, scratch, output),
             Action::Close(tile) => mizdrek::close_tile(plane, self.room, tile),
-            Action::Batch(tile, Batch { row: false, start, lines }) => {
-                mizdrek::tile_columns(plane, (self.room, tile), residuals, scratch, start, lines)
+            Action::Batch(tile, Batch { row: false, start, count }) => {
+                mizdrek::tile_columns(plane, (self.room, tile), residuals, scratch, start, count)
             }
-            Action::Batch(tile, Batch { row: true, start, lines }) => {
-                mizdrek::tile_rows(plane, (self.room, tile), scratch, output, start, lines)
+            Action::Batch(tile, Batch { row: true, start, count }) => {
+                mizdrek::tile_rows(plane, (self.room, tile), scratch, output, start, count)
             }
         };
         // The compiler may take what is lent to be read to be as before: the comparison is to look again.
@@ -131,7 +131,7 @@ impl TileCall {
 fn write_columns(tile: &Tile, batch: &Batch, work: &mut Work) {
     let (w, h) = (tile.ticket.w, tile.ticket.h);
     let all = oracle::columns((w, h), tile.ticket.column_kind, &work.residuals.rules);
-    let places = batch.start * h..(batch.start + batch.lines) * h;
+    let places = batch.start * h..(batch.start + batch.count) * h;
     work.scratch.rules[places.clone()].copy_from_slice(&all[places]);
 }
 
@@ -139,7 +139,7 @@ fn write_columns(tile: &Tile, batch: &Batch, work: &mut Work) {
 fn write_rows(plane: &Plane, tile: &Tile, batch: &Batch, scratch: &[i32], output: &mut [i32]) {
     let (w, h) = (tile.ticket.w, tile.ticket.h);
     let all = oracle::rows((w, h), tile.ticket.row_kind, scratch);
-    for j in batch.start..batch.start + batch.lines {
+    for j in batch.start..batch.start + batch.count {
         let place = rules::place(plane, tile, j);
         output[place..place + w].copy_from_slice(&all[j * w..(j + 1) * w]);
     }

@@ -1,6 +1,6 @@
 -- `block::block` meets its contract. Assumes nothing.
 use Rattle.answer.proofs.Answer.{kept, written}
-use Rattle.block.specs.Answer.{block_answer, scratch_after, output_after}
+use Rattle.block.specs.Call.{block_answer, scratch_after, output_after}
 use Rattle.block.proofs.Accepted.{accepted}
 use Rattle.block.proofs.Whole.{columns_asked, rows_asked, all_columns, all_rows}
 use Rattle.block.proofs.block.Goals as goal

@@ -16,8 +16,8 @@ use Rattle.laws.proofs.Bits.{or_ltb}
 use Rattle.laws.proofs.Every.{every_turn}
 use Rattle.laws.proofs.Halves.{halves_none, halves_more}
 use Rattle.laws.proofs.Place.{split}
-use Rattle.format.specs.Pieces.{is_near}
-use Rattle.choice.specs.Choice.{weight, are_near}
+use Rattle.format.specs.Pieces.{is_near, are_near}
+use Rattle.choice.specs.Choice.{weight}
 use Rattle.choice.proofs.weigh.Goals as goal
 
 -- the test of a magnitude m by bit 31

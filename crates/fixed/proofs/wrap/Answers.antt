@@ -1,5 +1,5 @@
 -- `fixed::wrap` meets its contract: a shift left by 32 and back is the reduction to 32 bits. Assumes nothing.
-use Rattle.fixed.proofs.Machine.{shl_shr_32, wrapped_fits, wrapped_read}
+use Rattle.laws.proofs.Machine.{shl_shr_32, wrapped_fits, wrapped_read}
 use Rattle.fixed.proofs.wrap.Goals as goal
 
 pub overflow_cast-result : goal.overflow_cast-result

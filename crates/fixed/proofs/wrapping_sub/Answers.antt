@@ -1,6 +1,6 @@
 use mathlib.Core.Path.{◌∙◌}
 use Rattle.std.proofs.lemmas.Int.{wrapping_sub_is}
-use Rattle.fixed.proofs.Machine.{int_wrap_is}
+use Rattle.laws.proofs.Machine.{int_wrap_is}
 use mir.Syntax.{w32}
 use Rattle.fixed.proofs.wrapping_sub.Goals as goal
 

@@ -1,5 +1,5 @@
 -- Each arm by the side that leads there. Assumes nothing.
-use Rattle.lines.proofs.Reading.{reading4, reading8, reading16}
+use Rattle.lines.proofs.Adst.{reading4, reading8, reading16}
 use Rattle.lanes.proofs.adst_lines.Goals as goal
 
 pub invariant_of-adst4 : goal.invariant_of-adst4

@@ -13,6 +13,6 @@ loop-i-preserved c =
     let a = c.args in
     let p = c.requires in
     let l = c.loop-i in
-    let k = in_row a.w a.lines a.width a.x a.y l.i (length a.from.now) (length l.output) p.0 p.1 p.2
+    let k = in_row a.w a.count a.width a.x a.y l.i (length a.from.now) (length l.output) p.0 p.1 p.2
     (omega (arith, lined_length l.invariant, p.3)) c.loop-i-test.true in
     lined_turn l.invariant (line_copied l.output a.from.now _ a.w l.i (omega (arith, k.source)) (omega (arith, k.target)) c.copy_from_slice.ensures.after)

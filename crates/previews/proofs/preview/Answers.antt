@@ -9,19 +9,19 @@ pub offset_bounds-source-b : goal.offset_bounds-source-b
 offset_bounds-source-b c =
     let e = c.in_ok-shape.ensures.answer in
     let a = c.args in
-    omega (arith, begins a.ticket a.b (length a.source.now) (length a.target.now) (length a.preview.now) a.b.lines (rw c.is_short-short.ensures at e))
+    omega (arith, begins a.ticket a.b (length a.source.now) (length a.target.now) (length a.preview.now) a.b.count (rw c.is_short-short.ensures at e))
 
 pub slice_bounds-from-count : goal.slice_bounds-from-count
 slice_bounds-from-count c =
     let e = c.in_ok-shape.ensures.answer in
     let a = c.args in
-    (begins a.ticket a.b (length a.source.now) (length a.target.now) (length a.preview.now) a.b.lines (rw c.is_short-short.ensures at e)).1
+    (begins a.ticket a.b (length a.source.now) (length a.target.now) (length a.preview.now) a.b.count (rw c.is_short-short.ensures at e)).1
 
 pub slice_bounds-from-start : goal.slice_bounds-from-start
 slice_bounds-from-start c =
     let e = c.in_ok-shape.ensures.answer in
     let a = c.args in
-    (begins a.ticket a.b (length a.source.now) (length a.target.now) (length a.preview.now) a.b.lines (rw c.is_short-short.ensures at e)).1
+    (begins a.ticket a.b (length a.source.now) (length a.target.now) (length a.preview.now) a.b.count (rw c.is_short-short.ensures at e)).1
 
 pub lines-requires : goal.lines-requires
 lines-requires c =

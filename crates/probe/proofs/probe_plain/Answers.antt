@@ -5,7 +5,7 @@ use lib.IntN.{ℤ}
 use lib.ListN.{length}
 use mir.Syntax.{w32}
 use mir.Facts.{to_z-of_z}
-use Rattle.passes.specs.Answer.{pass_answer, pass_after}
+use Rattle.passes.specs.Call.{pass_answer, pass_after}
 use Rattle.answer.proofs.Answer.{signed_asked, signed_given}
 use Rattle.passes.proofs.Accepted.{pass_small}
 use Rattle.probe.proofs.probe_plain.Goals as goal

@@ -1,6 +1,7 @@
 -- `totals::add_up` meets its contract. Assumes nothing.
 use Rattle.std.proofs.Common.{◌∙◌, rules, arith}
-use Rattle.totals.proofs.Added.{added_none, added_more, added_room, added_small, says_totals, says_damage, says_long}
+use Rattle.look.proofs.Looks.{told_room}
+use Rattle.totals.proofs.Added.{added_none, added_more, added_small, says_totals, says_damage, says_long}
 use Rattle.totals.proofs.add_up.Goals as goal
 
 pub returns-then-bytes-gt-LONGEST : goal.returns-then-bytes-gt-LONGEST
@@ -31,12 +32,12 @@ overflow_add-totals-in-loop-at-2 c =
 pub loop-at-smaller : goal.loop-at-smaller
 loop-at-smaller c =
     let e = c.in_ok-record.ensures in
-    omega (arith, added_room c.loop-at.invariant c.loop-at-test.true (λ i. (c.type_inv.bytes i).fits) e.0)
+    omega (arith, told_room c.loop-at.invariant.passed c.loop-at-test.true e.0)
 
 pub overflow_add-at : goal.overflow_add-at
 overflow_add-at c =
     let e = c.in_ok-record.ensures in
-    omega (arith, added_room c.loop-at.invariant c.loop-at-test.true (λ i. (c.type_inv.bytes i).fits) e.0)
+    omega (arith, told_room c.loop-at.invariant.passed c.loop-at-test.true e.0)
 
 pub loop-at-preserved : goal.loop-at-preserved
 loop-at-preserved c =

@@ -9,26 +9,22 @@ use lib.IntN.{ℤ, pos, nat_abs}
 use lib.ListN.{get_or}
 use lib.Signed.{mag}
 use mir.Syntax.{w32}
-use mir.ValLaws.{to_z-of_z}
 use mir.Val.{to_z, of_z}
 use Rattle.laws.specs.Store.{stores}
 use Rattle.laws.proofs.Store.{stored_none, stored_turn, stored_all, stored_length, lined_none, lined_turn, lined_all, lined_length}
 use Rattle.laws.proofs.Laid.{grid_laid}
+use Rattle.laws.proofs.Machine.{read_at}
 use Rattle.wht.specs.Wht.{wht_four, line_of}
 use Rattle.wht.specs.Turned.{Sized, turned}
 use Rattle.wht.proofs.pass.Invariants.{to, column}
 use Rattle.wht.proofs.pass.Goals as goal
 
--- a number of 32 bits, read back
-back : (z : ℤ) → mag z < 2 ^ 31 → to_z w32 (of_z w32 z) ≡ z
-back z h = to_z-of_z w32 z (record { sfits = h })
-
 back_size : {b : ℕ} {l : List ℤ} (k : ℕ) → Sized b l → k < 16 → mag (get_or l k (pos 0)) < 2 ^ 31 → nat_abs (to_z w32 (of_z w32 (get_or l k (pos 0)))) ≤ b
-back_size {l = l} k s h g = rw (back (get_or l k (pos 0)) g) (s.size k h)
+back_size {l = l} k s h g = rw (read_at w32 (get_or l k (pos 0)) g) (s.size k h)
 
 back_four : (p q r s : ℤ) → mag p < 2 ^ 31 → mag q < 2 ^ 31 → mag r < 2 ^ 31 → mag s < 2 ^ 31
     → wht_four (to_z w32 (of_z w32 p)) (to_z w32 (of_z w32 q)) (to_z w32 (of_z w32 r)) (to_z w32 (of_z w32 s)) ≡ wht_four p q r s
-back_four p q r s hp hq hr hs = rw (back p hp, back q hq, back r hr, back s hs)
+back_four p q r s hp hq hr hs = rw (read_at w32 p hp, read_at w32 q hq, read_at w32 r hr, read_at w32 s hs)
 
 -- what a turn has of column j
 row : (c : goal.After-line-y) →
@@ -71,7 +67,7 @@ bounds-dst-at c =
     )
 
 pub loop-f-preserved : goal.loop-f-preserved
-loop-f-preserved c = stored_turn c.loop-f.invariant refl (back _ c.dst-1.given)
+loop-f-preserved c = stored_turn c.loop-f.invariant refl (read_at w32 _ c.dst-1.given)
 
 pub loop-j-preserved : goal.loop-j-preserved
 unfolding line_of

@@ -13,7 +13,7 @@ use Rattle.laws.specs.Integer.{wrap32}
 use Rattle.laws.proofs.Store.{stored_none, stored_turn, stored_all, stores_out}
 use Rattle.laws.proofs.Laid.{stores_laid}
 use Rattle.fixed.specs.Fixed.{scaled}
-use Rattle.fixed.proofs.Machine.{read_32}
+use Rattle.laws.proofs.Machine.{read_at}
 use Rattle.block.specs.Lines.{scaled_at}
 use Rattle.block.proofs.shape.scale.Goals as goal
 
@@ -28,7 +28,7 @@ loop-i-preserved c =
     let before = ap (λ (d : List ℤ). get_or d (a.at + l.i) (pos 0)) l.invariant.is
     ∙ stores_out a.numbers.now l.i (λ k. a.at + k) (scaled_at a.numbers.now a.at) (a.at + l.i) (pos 0) (λ k b e. omega arith) in
     stored_turn l.invariant refl
-    (read_32 _ c.rect_scale.type_inv ∙ c.rect_scale.ensures ∙ ap (λ (z : ℤ). wrap32 (scaled z)) (to_z-of_z fits ∙ before))
+    (read_at w32 _ c.rect_scale.type_inv ∙ c.rect_scale.ensures ∙ ap (λ (z : ℤ). wrap32 (scaled z)) (to_z-of_z fits ∙ before))
 
 pub returns : goal.returns
 returns c =

@@ -6,7 +6,7 @@ use mir.Syntax.{w32}
 use mir.Facts.{to_z-of_z}
 use Rattle.laws.specs.Integer.{wrap32}
 use Rattle.fixed.specs.Fixed.{floor_shift, round_shift}
-use Rattle.fixed.proofs.Machine.{half_read, shr_read}
+use Rattle.fixed.proofs.Shifted.{half_read, shr_read}
 use Rattle.fixed.proofs.Shift.round.Goals as goal
 
 pub returns : goal.returns

@@ -10,7 +10,7 @@ use mir.Val.{SFits}
 use mir.Facts.{to_z-of_z}
 use Rattle.laws.specs.Integer.{wrap32}
 use Rattle.laws.proofs.Store.{stored_none, stored_turn, stored_all, stores_in}
-use Rattle.fixed.proofs.Machine.{read_32}
+use Rattle.laws.proofs.Machine.{read_at}
 use Rattle.lines.specs.Line.{line_at}
 use Rattle.lines.proofs.fold.fold.Invariants.{itself}
 use Rattle.lines.proofs.fold.fold.Goals as goal
@@ -25,9 +25,9 @@ loop-k-preserved c =
     let p : SFits w32 (line_at l.numbers.now l.at l.stride k) = search rules in
     let q : SFits w32 (line_at l.numbers.now l.at l.stride (2 * length c.args.s.now - 1 - k)) = search rules in (
       stored_turn c.loop-k.invariant.0 refl
-          (read_32 _ c.wrapping_add.type_inv ∙ c.wrapping_add.ensures ∙ ap₂ (λ (a b : ℤ). wrap32 (a +ℤ b)) (to_z-of_z p) (to_z-of_z q)),
+          (read_at w32 _ c.wrapping_add.type_inv ∙ c.wrapping_add.ensures ∙ ap₂ (λ (a b : ℤ). wrap32 (a +ℤ b)) (to_z-of_z p) (to_z-of_z q)),
       stored_turn c.loop-k.invariant.1 refl
-          (read_32 _ c.wrapping_sub.type_inv ∙ c.wrapping_sub.ensures ∙ ap₂ (λ (a b : ℤ). wrap32 (a -ℤ b)) (to_z-of_z p) (to_z-of_z q)),
+          (read_at w32 _ c.wrapping_sub.type_inv ∙ c.wrapping_sub.ensures ∙ ap₂ (λ (a b : ℤ). wrap32 (a -ℤ b)) (to_z-of_z p) (to_z-of_z q)),
     )
 
 pub returns : goal.returns

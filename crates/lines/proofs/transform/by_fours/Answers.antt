@@ -21,10 +21,10 @@ pub loop-q-init : goal.loop-q-init
 loop-q-init g c = none_yet
 
 -- a line as it is stored, at a side that is 8
-stored : (kind shift line j to : ℕ) (src d : List ℤ) {n : ℕ} {d' : List ℤ} → n ≡ 8 → d' ≡ stores d n (on_line n to) (pass_at kind n shift line src j)
-    → d' ≡ stores d 8 (on_line 8 to) (pass_at kind 8 shift line src j)
-stored kind shift line j to src d {n} {d'} eight e =
-    subst (λ (m : ℕ). d' ≡ stores d m (on_line m to) (pass_at kind m shift line src j)) eight e
+stored : (kind shift lines j to : ℕ) (src d : List ℤ) {n : ℕ} {d' : List ℤ} → n ≡ 8 → d' ≡ stores d n (on_line n to) (pass_at kind n shift lines src j)
+    → d' ≡ stores d 8 (on_line 8 to) (pass_at kind 8 shift lines src j)
+stored kind shift lines j to src d {n} {d'} eight e =
+    subst (λ (m : ℕ). d' ≡ stores d m (on_line m to) (pass_at kind m shift lines src j)) eight e
 
 pub loop-q-preserved : goal.loop-q-preserved
 loop-q-preserved g c =

@@ -1,6 +1,6 @@
 -- `look::file::check_records` meets its contract. Assumes nothing.
 use Rattle.std.proofs.Common.{rules, arith}
-use Rattle.look.proofs.Looks.{looks_damage, looks_all, looks_room, looks_few}
+use Rattle.look.proofs.Looks.{looks_damage, looks_all, looks_few, told_room}
 use Rattle.look.proofs.file.check_records.Goals as goal
 
 pub returns-in_err-record : goal.returns-in_err-record
@@ -13,10 +13,10 @@ overflow_add-places c =
     omega (arith, looks_few c.loop-at.invariant c.loop-at-test.true e.0 e.2)
 
 pub overflow_add-at : goal.overflow_add-at
-overflow_add-at c = omega (arith, looks_room c.loop-at.invariant c.loop-at-test.true c.in_ok-record.ensures.0)
+overflow_add-at c = omega (arith, told_room c.loop-at.invariant.passed c.loop-at-test.true c.in_ok-record.ensures.0)
 
 pub loop-at-smaller : goal.loop-at-smaller
-loop-at-smaller c = omega (arith, looks_room c.loop-at.invariant c.loop-at-test.true c.in_ok-record.ensures.0)
+loop-at-smaller c = omega (arith, told_room c.loop-at.invariant.passed c.loop-at-test.true c.in_ok-record.ensures.0)
 
 pub returns : goal.returns
 returns c = looks_all c.loop-at.invariant (omega arith)

@@ -9,7 +9,7 @@ use Rattle.totals.specs.Totals.{Reported, reported}
 use Rattle.totals.specs.declared.Totals.{Totals}
 use Rattle.answer.specs.declared.Refusal.{Refusal}
 use Rattle.std.specs.Prelude.{Result}
-use Rattle.mizdrek.specs.Reported.{signed_report, levels_given, magnitude_given}
+use Rattle.mizdrek.specs.Reported.{signed_report, levels_given, sum_given}
 use Rattle.mizdrek.proofs.disk.mizdrek_report.Goals as goal
 
 -- what the call found, by the arm that its result is
@@ -29,7 +29,7 @@ returns-in-Err c =
     record {
       value = search rules ∙ c.signed.ensures ∙ ap signed_report e;
       levels_after = ap (λ (x : Reported). levels_given x a.levels.now) e;
-      magnitude_after = ap (λ (x : Reported). magnitude_given x a.magnitude.now) e;
+      magnitude_after = ap (λ (x : Reported). sum_given x a.magnitude.now) e;
     }
 
 pub returns-in-Ok : goal.returns-in-Ok
@@ -39,5 +39,5 @@ returns-in-Ok c =
     record {
       value = search rules ∙ c.signed-in-Ok.ensures ∙ ap signed_report e;
       levels_after = ap (λ (x : Reported). levels_given x a.levels.now) e;
-      magnitude_after = ap (λ (x : Reported). magnitude_given x a.magnitude.now) e;
+      magnitude_after = ap (λ (x : Reported). sum_given x a.magnitude.now) e;
     }

@@ -15,7 +15,7 @@ zeroth-requires t c =
     let r = c.requires in
     let m = c.args.line.now.count in
     let z = zeroth_asked m c.args.step r.power r.staging in
-    (r.staging.plain, z.0, omega (arith, c.halve.auto.s ∙ sums_long m r.power ∙ c.if-h-eq1.true), omega (arith, z.1, c.halve.auto.o))
+    (r.staging.side_by_side, z.0, omega (arith, c.halve.auto.s ∙ sums_long m r.power ∙ c.if-h-eq1.true), omega (arith, z.1, c.halve.auto.o))
 
 pub stages-requires : goal.stages-requires
 stages-requires t c =

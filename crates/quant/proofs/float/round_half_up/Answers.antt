@@ -4,7 +4,7 @@ use native.Mathlib.Nat.{mod-le}
 use native.Mathlib.Omega.{arith}
 use lib.Dec.{T}
 use lib.Ieee.{Float, binary32, fits, of_bits, to_bits}
-use Rattle.quant.proofs.Rounding.{plain_no_nan, below_half, stays}
+use Rattle.quant.proofs.Rounding.{no_sign_no_nan, below_half, stays}
 use Rattle.quant.proofs.Cut.{Raised, raised, Cutting, cutting}
 use Rattle.quant.proofs.float.round_half_up.Goals as goal
 use Rattle.quant.proofs.float.round_half_up.Lts as lts
@@ -35,7 +35,7 @@ unfolding of_bits
 returns-then-x-2 c = stays c.args.x c.requires (held c.before.before) c.if-x-2.true
 
 pub float_to_bits-bits : goal.float_to_bits-bits
-float_to_bits-bits c = plain_no_nan c.at_least_one-bits.result (read c).no_sign
+float_to_bits-bits c = no_sign_no_nan c.at_least_one-bits.result (read c).no_sign
 
 pub overflow_sub-ones : goal.overflow_sub-ones
 overflow_sub-ones c = omega (arith, (worked c).to)

@@ -8,7 +8,7 @@ use lib.ListN.{length}
 use Rattle.answer.proofs.Answer.{kept}
 use Rattle.quant.specs.Scan.{levels_after, magnitudes_after}
 use Rattle.quant.proofs.Places.{too_long}
-use Rattle.quant.proofs.Scanned.{Call, card_refuses, card, by_its_scan, found_lost}
+use Rattle.quant.proofs.Scanned.{Call, first_refuses, first_passed, by_its_scan, found_bad_scan}
 use Rattle.quant.proofs.Whole.{the_answer, the_levels, the_magnitudes}
 use Rattle.quant.proofs.scan.quantize_to_levels.Goals as goal
 use Rattle.quant.proofs.scan.quantize_to_levels.Lts as lts
@@ -23,17 +23,17 @@ pub returns-in_err-quantizer-clause-levels_after : goal.returns-in_err-quantizer
 unfolding levels_after
 returns-in_err-quantizer-clause-levels_after c =
     let a = c.args in
-    kept _ _ (card_refuses _ a.width a.step a.settings a.coefficients.now a.scan.now _ _ c.in_err-quantizer.ensures)
+    kept _ _ (first_refuses _ a.width a.step a.settings a.coefficients.now a.scan.now _ _ c.in_err-quantizer.ensures)
 
 pub returns-in_err-quantizer-clause-magnitudes_after : goal.returns-in_err-quantizer-clause-magnitudes_after
 unfolding magnitudes_after
 returns-in_err-quantizer-clause-magnitudes_after c =
     let a = c.args in
-    kept _ _ (card_refuses _ a.width a.step a.settings a.coefficients.now a.scan.now _ _ c.in_err-quantizer.ensures)
+    kept _ _ (first_refuses _ a.width a.step a.settings a.coefficients.now a.scan.now _ _ c.in_err-quantizer.ensures)
 
 pub in_room-requires : goal.in_room-requires
 in_room-requires c =
-    let k = card (call c.args) _ c.in_ok-quantizer.ensures.2 in
+    let k = first_passed (call c.args) _ c.in_ok-quantizer.ensures.2 in
     (lit≤ tt, c.if-n-le64.true, k.levels_room, k.magnitudes_room)
 
 pub returns-then-n-le64 : goal.returns-then-n-le64
@@ -51,7 +51,7 @@ returns-then-n-le64 c =
 
 pub in_room-requires-then-n-le1024 : goal.in_room-requires-then-n-le1024
 in_room-requires-then-n-le1024 c =
-    let k = card (call c.args) _ c.in_ok-quantizer.ensures.2 in
+    let k = first_passed (call c.args) _ c.in_ok-quantizer.ensures.2 in
     (lit≤ tt, c.if-n-le1024.true, k.levels_room, k.magnitudes_room)
 
 pub returns-then-n-le1024 : goal.returns-then-n-le1024
@@ -71,6 +71,6 @@ pub returns : goal.returns
 unfolding levels_after magnitudes_after
 returns c =
     let a = c.args in
-    let lost = not-false _ (too_long a.width a.coefficients.now a.scan.now (omega arith)) in
-    let e = found_lost a.width a.coefficients.now a.scan.now lost ∙ by_its_scan (call a) _ c.in_ok-quantizer.ensures.2 in
+    let bad_scan = not-false _ (too_long a.width a.coefficients.now a.scan.now (omega arith)) in
+    let e = found_bad_scan a.width a.coefficients.now a.scan.now bad_scan ∙ by_its_scan (call a) _ c.in_ok-quantizer.ensures.2 in
     record { result_value = e; levels_after = kept _ _ e; magnitudes_after = kept _ _ e }

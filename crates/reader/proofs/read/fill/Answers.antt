@@ -7,9 +7,9 @@ use Rattle.laws.proofs.Pasted.{spliced}
 use Rattle.laws.specs.Store.{tab, over}
 use Rattle.format.specs.Pieces.{number_at}
 use Rattle.format.specs.Format.{width_in, height_in, places_in, level_in, length_in}
-use Rattle.reader.specs.Reading.{numbers_of, sides_of, levels_of}
+use Rattle.reader.specs.Read.{numbers_of, sides_of, levels_of}
 use Rattle.reader.proofs.Filling.{filling_none, now_next, next_room, filling_more, filled_all, levels_long, numbers_length}
-use Rattle.format.proofs.Fill.{over_whole}
+use Rattle.laws.proofs.Pasted.{over_whole}
 use Rattle.reader.proofs.read.fill.Goals as goal
 
 pub loop-k-init : goal.loop-k-init

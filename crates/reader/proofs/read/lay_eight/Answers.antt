@@ -6,7 +6,7 @@ use mir.Syntax.{w32}
 use Rattle.laws.proofs.Store.{stored_none, stored_turn}
 use Rattle.format.specs.Format.{count_in, list_in}
 use Rattle.reader.proofs.Places.{map_room, list_room, count_next, level_at_lem, count_same, eight_zeros}
-use Rattle.format.proofs.Fill.{stored_tab}
+use Rattle.laws.proofs.Filled.{filled_tab}
 use Rattle.reader.proofs.read.lay_eight.Goals as goal
 
 pub bounds-s-q : goal.bounds-s-q
@@ -61,4 +61,4 @@ loop-i-preserved c =
     }
 
 pub returns-clause-levels_after : goal.returns-clause-levels_after
-returns-clause-levels_after c = stored_tab 8 (pos 0) c.loop-i.invariant.laid (omega arith) c.requires.eight.2
+returns-clause-levels_after c = filled_tab 8 (pos 0) c.loop-i.invariant.laid (omega arith) c.requires.eight.2

@@ -8,7 +8,7 @@ use Rattle.format.specs.Format.{places_in, count_in, list_in, level_in}
 use Rattle.format.proofs.Sides.{sized_in}
 use Rattle.look.proofs.Looked.{length_is}
 use Rattle.look.proofs.Counted.{count_none}
-use Rattle.format.proofs.Fill.{over_whole}
+use Rattle.laws.proofs.Pasted.{over_whole}
 use Rattle.reader.proofs.read.lay_levels.Goals as goal
 
 pub loop-j-init : goal.loop-j-init

@@ -5,8 +5,8 @@ use Rattle.laws.specs.Store.{over}
 use Rattle.answer.specs.Answer.{answers}
 use Rattle.answer.proofs.Answer.{kept, written}
 use Rattle.format.specs.Format.{parse}
-use Rattle.reader.specs.Reading.{numbers_after, sides_after, levels_after}
-use Rattle.format.proofs.Fill.{over_front}
+use Rattle.reader.specs.Read.{numbers_after, sides_after, levels_after}
+use Rattle.laws.proofs.Pasted.{over_front}
 use Rattle.reader.proofs.Lent.{short_room, read_damaged, read_short, read_done}
 use Rattle.reader.proofs.read.read_records.Goals as goal
 

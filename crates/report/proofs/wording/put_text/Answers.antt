@@ -8,7 +8,7 @@ use Rattle.laws.proofs.Pasted.{length_pasted, pasted_three}
 use Rattle.laws.specs.Store.{tab, pasted}
 use Rattle.answer.specs.Answer.{number_of}
 use Rattle.totals.specs.Totals.{totals, refused}
-use Rattle.report.specs.Text.{ascii, line, text_of, Printed}
+use Rattle.report.specs.Text.{ascii, line, text_of, PrintedAs}
 use Rattle.report.proofs.Decimal.{line_length_lem}
 use Rattle.report.proofs.wording.put_text.Goals as goal
 
@@ -42,7 +42,7 @@ returns-in-Ok c =
     let x = line (ascii "blocks ") t.blocks in
     let y = line (ascii "levels ") t.levels in
     let z = line (ascii "magnitude ") t.magnitude in
-    let put : Printed (totals t.blocks t.levels t.magnitude) a.out.now r.result r.new.out =
+    let put : PrintedAs (totals t.blocks t.levels t.magnitude) a.out.now r.result r.new.out =
     record {
       value = omega (arith, r.ensures.value, q.ensures.value, p.ensures.value, length-append x (y ++ z), length-append y z);
       out_after = r.ensures.out_after
@@ -59,7 +59,7 @@ returns-in-Err c =
     let p = c.put_line-in-Err in
     let out = c.args.out.now in
     let number = c.from-in-Err.ensures ∙ c.from.ensures in
-    let put : Printed (refused (number_of c.in-Err.why)) out p.result p.new.out =
+    let put : PrintedAs (refused (number_of c.in-Err.why)) out p.result p.new.out =
     record {
       value = omega (arith, p.ensures.value, ap (λ (k : ℕ). length (line (ascii "refused ") k)) number);
       out_after = p.ensures.out_after ∙ ap (λ (k : ℕ). pasted out 0 (line (ascii "refused ") k)) number;

@@ -7,7 +7,7 @@ use native.Mathlib.Omega.{arith}
 use lib.ListN.{length, take, drop}
 use Rattle.format.proofs.Listed.{listed_small}
 use Rattle.format.specs.Pieces.{listed}
-use Rattle.writer.specs.Writing.{level_at, level_from, places_at, place_at, length_to}
+use Rattle.writer.specs.Write.{level_at, level_from, places_at, place_at, length_to}
 use Rattle.writer.proofs.Blocks.{length_at, part_long, part_listed, place_none, place_step, place_within, to_none, to_step, to_within, sized_at, fits_levels, fits_bytes, fits_both}
 use Rattle.writer.proofs.admit.fits.Goals as goal
 

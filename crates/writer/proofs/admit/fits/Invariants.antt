@@ -1,6 +1,6 @@
 -- `writer::admit::fits` meets its contract. Assumes nothing.
 use Rattle.std.proofs.Common.{◌≡◌, ◌≤◌, length}
-use Rattle.writer.specs.Writing.{place_at, length_to}
+use Rattle.writer.specs.Write.{place_at, length_to}
 use Rattle.writer.proofs.admit.fits.Given as goal
 
 abbrev pub invariant-loop-k : goal.invariant-loop-k

@@ -2,7 +2,7 @@
 use Rattle.std.proofs.Common.{◌≡◌, Bool, ℕ, ◌+◌, ◌*◌, length, get_or, pos, sym, ap, ◌∙◌, arith, add-one}
 use Rattle.format.proofs.Listed.{listed_length, standing_more, standing_le}
 use Rattle.format.specs.Pieces.{standing, stands}
-use Rattle.writer.specs.Writing.{level_at}
+use Rattle.writer.specs.Write.{level_at}
 use Rattle.writer.proofs.Word.{bit_byte}
 use Rattle.writer.proofs.admit.listed_length.Goals as goal
 

@@ -2,7 +2,7 @@
 use Rattle.std.proofs.Common.{arith}
 use Rattle.format.proofs.Bits.{eight}
 use Rattle.format.specs.Pieces.{stands}
-use Rattle.writer.specs.Writing.{level_at}
+use Rattle.writer.specs.Write.{level_at}
 use Rattle.writer.proofs.write.map_byte.Goals as goal
 
 pub returns : goal.returns

@@ -3,7 +3,7 @@ use Rattle.std.proofs.Common.{◌≡◌, ◌-◌, ◌++◌, ℤ, sym, ap, ◌∙
 use Rattle.format.proofs.Bits.{packed_none}
 use Rattle.format.proofs.Listed.{listed_none}
 use Rattle.format.specs.Pieces.{stands, bytes_for, listed}
-use Rattle.writer.specs.Writing.{level_at}
+use Rattle.writer.specs.Write.{level_at}
 use Rattle.writer.proofs.Backwards.{put_more, one_more, put_all, put_empty}
 use Rattle.writer.proofs.write.put_eight.Goals as goal
 

@@ -1,5 +1,5 @@
 -- `writer::write::put_eight` meets its contract. Assumes nothing.
-use Rattle.writer.specs.Writing.{level_at}
+use Rattle.writer.specs.Write.{level_at}
 use Rattle.writer.proofs.Backwards.{Put}
 use Rattle.writer.proofs.write.put_eight.Given as goal
 

@@ -1,7 +1,7 @@
 -- `writer::write::put_listed` meets its contract. Assumes nothing.
 use Rattle.std.proofs.Common.{◌≡◌, ℕ, ◌+◌, ◌-◌, ◌*◌, ◌≤◌, List, ◌++◌, ℤ, length, take, drop, sym, ap, ◌∙◌, arith, length-append}
 use Rattle.format.specs.Pieces.{listed}
-use Rattle.writer.specs.Writing.{level_at}
+use Rattle.writer.specs.Write.{level_at}
 use Rattle.writer.proofs.Backwards.{put_more, some_more, put_all}
 use Rattle.writer.proofs.Blocks.{part_long, part_at}
 use Rattle.writer.proofs.write.put_listed.Goals as goal

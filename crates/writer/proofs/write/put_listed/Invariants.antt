@@ -1,6 +1,6 @@
 -- `writer::write::put_listed` meets its contract. Assumes nothing.
 use Rattle.std.proofs.Common.{◌*◌, length}
-use Rattle.writer.specs.Writing.{level_at}
+use Rattle.writer.specs.Write.{level_at}
 use Rattle.writer.proofs.Backwards.{Put}
 use Rattle.writer.proofs.write.put_listed.Given as goal
 

@@ -3,9 +3,9 @@ use Rattle.std.proofs.Common.{◌≡◌, ℕ, ◌+◌, ◌-◌, ◌*◌, ◌/◌
 use Rattle.laws.proofs.Store.{stored_none, stored_turn}
 use Rattle.laws.proofs.Sum.{sum_ℕ_same}
 use Rattle.laws.specs.Store.{tab}
-use Rattle.format.proofs.Fill.{stored_tab}
+use Rattle.laws.proofs.Filled.{filled_tab}
 use Rattle.format.specs.Pieces.{packed, stands, map_of}
-use Rattle.writer.specs.Writing.{level_at}
+use Rattle.writer.specs.Write.{level_at}
 use Rattle.writer.proofs.Blocks.{part_at}
 use Rattle.writer.proofs.write.put_map.Goals as goal
 
@@ -32,4 +32,4 @@ returns c =
     let n = length c.args.out.now in
     let levels = c.args.levels.now in
     let bytes : n ≡ length levels / 8 = omega (arith, c.requires) in
-    stored_tab n 0 c.loop-j.invariant (omega arith) refl ∙ ap (λ (k : ℕ). tab k (λ j. packed (λ i. stands (level_at levels (j * 8 + i))))) bytes
+    filled_tab n 0 c.loop-j.invariant (omega arith) refl ∙ ap (λ (k : ℕ). tab k (λ j. packed (λ i. stands (level_at levels (j * 8 + i))))) bytes

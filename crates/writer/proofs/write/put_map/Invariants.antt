@@ -2,7 +2,7 @@
 use Rattle.std.proofs.Common.{◌+◌, ◌*◌}
 use Rattle.laws.proofs.Store.{Stored}
 use Rattle.format.specs.Pieces.{packed, stands}
-use Rattle.writer.specs.Writing.{level_at}
+use Rattle.writer.specs.Write.{level_at}
 use Rattle.writer.proofs.write.put_map.Given as goal
 
 abbrev pub invariant-loop-j : goal.invariant-loop-j

@@ -5,10 +5,10 @@ use borrow.Rule.Slice.PartMut.{put_mid}
 use Rattle.std.proofs.lemmas.List.{length-take-le}
 use Rattle.laws.proofs.Pasted.{spliced}
 use Rattle.format.proofs.Bits.{map_length}
-use Rattle.format.proofs.Fill.{over_front}
+use Rattle.laws.proofs.Pasted.{over_front}
 use Rattle.format.proofs.Sides.{sized}
 use Rattle.format.specs.Pieces.{four, map_of}
-use Rattle.writer.specs.Writing.{level_at}
+use Rattle.writer.specs.Write.{level_at}
 use Rattle.writer.proofs.Blocks.{of_length, room_of_lem, paste_record}
 use Rattle.writer.proofs.write.put_record.Goals as goal
 

@@ -5,8 +5,9 @@ use Rattle.laws.proofs.Part.{rest_is}
 use Rattle.laws.proofs.Pasted.{pasted_none}
 use Rattle.laws.specs.Store.{over, pasted}
 use Rattle.format.specs.Format.{Block, record_of, bytes_of}
-use Rattle.writer.specs.Writing.{place_at, places_at, length_to, block_of, block_at, blocks_in}
-use Rattle.writer.proofs.Blocks.{length_at, place_none, place_step, place_within, bytes_none, at_length, bytes_long, length_to_lem, to_within, sides_at, block_at_lem, block_part, rest_put, over_block}
+use Rattle.writer.specs.Write.{place_at, places_at, length_to, block_of, block_at, blocks_in}
+use Rattle.laws.proofs.Pasted.{rest_put}
+use Rattle.writer.proofs.Blocks.{length_at, place_none, place_step, place_within, bytes_none, at_length, bytes_long, length_to_lem, to_within, sides_at, block_at_lem, block_part, over_block}
 use Rattle.writer.proofs.write.put_records.Goals as goal
 
 -- what a turn knows of block k, whose levels begin at place, and whose record begins at `at`

@@ -2,7 +2,7 @@
 use Rattle.std.proofs.Common.{◌≡◌, length}
 use Rattle.laws.specs.Store.{over}
 use Rattle.format.specs.Format.{bytes_of}
-use Rattle.writer.specs.Writing.{place_at, blocks_in}
+use Rattle.writer.specs.Write.{place_at, blocks_in}
 use Rattle.writer.proofs.write.put_records.Given as goal
 
 abbrev pub invariant-loop-k : goal.invariant-loop-k

@@ -3,7 +3,7 @@ use Rattle.std.proofs.Common.{length, ap, ◌∙◌, rules}
 use Rattle.answer.proofs.Answer.{kept, written, refused_alike, accepted_alike}
 use Rattle.answer.specs.Answer.{answers}
 use Rattle.format.specs.Format.{bytes_of}
-use Rattle.writer.specs.Writing.{blocks_in, by_buffers, write_answer, bytes_after}
+use Rattle.writer.specs.Write.{blocks_in, by_buffers, write_answer, bytes_after}
 use Rattle.writer.proofs.Admitted.{admitted}
 use Rattle.writer.proofs.write.write_records.Goals as goal
 

@@ -4,7 +4,7 @@ use Prim.Native.Nat.{ℕ}
 use Rattle.kernels.specs.Kind.{kind_number}
 use Rattle.lines.specs.Pass.{pass_lines}
 use Rattle.block.specs.Lines.{column_lines}
-use Rattle.block.proofs.LineRoom.{columns_room}
+use Rattle.block.proofs.Room.{columns_room}
 use Rattle.block.proofs.shape.Shape.column_lines.Goals as goal
 
 pub run-requires : goal.run-requires

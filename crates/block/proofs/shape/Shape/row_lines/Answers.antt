@@ -4,7 +4,7 @@ use Prim.Native.Nat.{ℕ, ◌+◌, ◌*◌, ◌≤◌}
 use native.Mathlib.Omega.{arith}
 use Rattle.kernels.specs.Kind.{kind_number}
 use Rattle.sizes.proofs.Shift.{shift_bounds}
-use Rattle.block.proofs.LineRoom.{rows_room, rows_end}
+use Rattle.block.proofs.Room.{rows_room, rows_end}
 use Rattle.block.proofs.Scaled.{rows_scaled, rows_plain}
 use Rattle.block.proofs.shape.Shape.row_lines.Goals as goal
 

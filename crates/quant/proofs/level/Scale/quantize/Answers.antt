@@ -7,12 +7,12 @@ use lib.Ieee.{Float, binary32, in_float, of_bits, is_nan}
 use mir.Syntax.{w32}
 use mir.Val.{to_z, of_z, SFits}
 use mir.ValLaws.{to_z-of_z}
-use Rattle.quant.specs.Float.{plain, abs_of, sign_of}
+use Rattle.quant.specs.Float.{has_no_sign, abs_of, sign_of}
 use Rattle.quant.specs.Level.{product_of}
 use Rattle.quant.specs.Settings.{coefficient_ok}
 use Rattle.quant.specs.declared.level.Scale.{Scale}
 use Rattle.quant.proofs.Ranges.{coefficient_size, in_float_lem}
-use Rattle.quant.proofs.Written.{max0_plain, level_kept, level_dropped, accepted_number}
+use Rattle.quant.proofs.Written.{max0_no_sign, level_kept, level_dropped, accepted_number}
 use Rattle.quant.proofs.level.Scale.quantize.Goals as goal
 
 -- the product, read back from the coefficient's bits
@@ -32,7 +32,7 @@ pub abs-magnitude-requires : goal.abs-magnitude-requires
 abs-magnitude-requires c = number c.args.self c.args.coefficient c.ranges.coefficient c.requires
 
 pub round_half_up-whole-requires : goal.round_half_up-whole-requires
-round_half_up-whole-requires c = subst (λ (y : Float). T (plain y)) (sym c.max0.ensures) (max0_plain _)
+round_half_up-whole-requires c = subst (λ (y : Float). T (has_no_sign y)) (sym c.max0.ensures) (max0_no_sign _)
 
 pub sign-requires : goal.sign-requires
 sign-requires c = number c.args.self c.args.coefficient c.ranges.coefficient c.requires

@@ -8,7 +8,7 @@ use lib.ListN.{length, take, replicate}
 use Rattle.std.proofs.lemmas.List.{length-take-le, length-replicate}
 use Rattle.answer.proofs.Answer.{kept, written}
 use Rattle.quant.specs.Level.{level_by, magnitude_by}
-use Rattle.quant.proofs.Scanned.{found_lost, found_dense, found_all, named_length, dense_is, written_is}
+use Rattle.quant.proofs.Scanned.{found_bad_scan, found_bad_coefficient, found_all, named_length, bad_coefficient_is, written_is}
 use Rattle.quant.proofs.scan.Quantizer.in_room.Goals as goal
 
 -- the room for the named coefficients has as many places as the scan
@@ -18,19 +18,19 @@ cut n m h = length-take-le n (replicate m (pos 0)) (omega (arith, length-replica
 pub returns-in_err-name_coefficients-clause-levels_after : goal.returns-in_err-name_coefficients-clause-levels_after
 returns-in_err-name_coefficients-clause-levels_after g c =
     let a = c.args in
-    kept _ _ (found_lost a.self.width a.coefficients.now a.scan.now c.in_err-name_coefficients.ensures.1)
+    kept _ _ (found_bad_scan a.self.width a.coefficients.now a.scan.now c.in_err-name_coefficients.ensures.1)
 
 pub returns-in_err-name_coefficients-clause-magnitudes_after : goal.returns-in_err-name_coefficients-clause-magnitudes_after
 returns-in_err-name_coefficients-clause-magnitudes_after g c =
     let a = c.args in
-    kept _ _ (found_lost a.self.width a.coefficients.now a.scan.now c.in_err-name_coefficients.ensures.1)
+    kept _ _ (found_bad_scan a.self.width a.coefficients.now a.scan.now c.in_err-name_coefficients.ensures.1)
 
 pub returns-then-not-coefficients_ok : goal.returns-then-not-coefficients_ok
 returns-then-not-coefficients_ok g c =
     let a = c.args in
     let n = c.in_ok-name_coefficients.ensures in
-    let dense = sym (dense_is a.self.width a.coefficients.now a.scan.now _ _ (cut _ _ (omega arith)) n.1) ∙ ap not (sym c.coefficients_ok.ensures ∙ c.if-not-coefficients_ok.true) in
-    let e = found_dense a.self.width a.coefficients.now a.scan.now n.0 dense in
+    let bad_coefficient = sym (bad_coefficient_is a.self.width a.coefficients.now a.scan.now _ _ (cut _ _ (omega arith)) n.1) ∙ ap not (sym c.coefficients_ok.ensures ∙ c.if-not-coefficients_ok.true) in
+    let e = found_bad_coefficient a.self.width a.coefficients.now a.scan.now n.0 bad_coefficient in
     record { value = e; levels_after = kept _ _ e; magnitudes_after = kept _ _ e }
 
 pub fill-requires : goal.fill-requires
@@ -45,8 +45,8 @@ returns g c =
     let a = c.args in
     let s = a.self.scale in
     let n = c.in_ok-name_coefficients.ensures in
-    let dense = sym (dense_is a.self.width a.coefficients.now a.scan.now _ _ (cut _ _ (omega arith)) n.1) ∙ ap not (sym c.coefficients_ok.ensures ∙ c.if-not-coefficients_ok.false) in
-    let e = found_all a.self.width a.coefficients.now a.scan.now n.0 dense in
+    let bad_coefficient = sym (bad_coefficient_is a.self.width a.coefficients.now a.scan.now _ _ (cut _ _ (omega arith)) n.1) ∙ ap not (sym c.coefficients_ok.ensures ∙ c.if-not-coefficients_ok.false) in
+    let e = found_all a.self.width a.coefficients.now a.scan.now n.0 bad_coefficient in
     let at = written_is a.self.width a.coefficients.now a.scan.now _ _ (cut _ _ (omega arith)) n.1 in
     record {
       value = e;
