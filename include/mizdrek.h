@@ -30,7 +30,7 @@ extern "C" {
 
 /* Why a call is refused: it returns minus this number. */
 enum mizdrek_refusal {
-    /* A side, a quantizer's width or a pass's line count isn't 4, 8, 16 or 32, or a pass's shift isn't 1 to 15; or a plane
+    /* A side, a quantizer's width or a pass's line count isn't 4, 8, 16 or 32, or a pass's shift isn't 0 to 15; or a plane
      * is made with a side outside 4 to 256. */
     MIZDREK_BAD_SIZE = 1,
     /* A kind isn't 0 or 1, or the ADST is asked in a block that isn't square, or at side 32. */
@@ -77,8 +77,9 @@ uint32_t mizdrek_qstep(uint32_t index);
 
 /*
  * One pass: `lines` lines of `side` samples each. Sample k of line j is src[k * lines + j]; frequency f of line j goes to
- * dst[j * side + f]. Each sum is rounded by 2^(shift - 1), wraps at 32 bits and is shifted right by `shift`, 1 to 15.
- * Reads and writes side * lines numbers and answers side * lines.
+ * dst[j * side + f]. Each sum is rounded by 2^(shift - 1), wraps at 32 bits and is shifted right by `shift`, 1 to 15;
+ * at shift 0 it only wraps, so that these are the raw kernel sums: a line of which sample k alone is 1 gives column k of
+ * its kernel. Reads and writes side * lines numbers and answers side * lines.
  */
 int64_t mizdrek_pass(size_t side, uint32_t kind, int32_t shift, size_t lines,
                      const int32_t *src, size_t src_len,

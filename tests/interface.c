@@ -51,13 +51,23 @@ static void tables(void)
 
 static void pass(void)
 {
-    static const int32_t line[8] = {3, 9, 14, 18, 21, 22, 20, 13};
+    static const int32_t line[8] = {3, 9, 14, 18, 21, 22, 20, 13}, column[8] = {11, 34, 54, 71, 84, 88, 79, 50};
     int32_t src[32] = {1}, dst[32];
     expect("pass", mizdrek_pass(8, 1, 2, 4, src, 32, dst, 32), 32);
     for (size_t f = 0; f < 8; f++) {
         expect("ADST8 pass", dst[f], line[f]);
     }
+    expect("pass at shift 0", mizdrek_pass(8, 1, 0, 4, src, 32, dst, 32), 32);
+    for (size_t f = 0; f < 8; f++) {
+        expect("ADST8 pass at shift 0", dst[f], column[f]);
+    }
+    expect_all("ADST8 pass at shift 0 over zeros", dst + 8, 24, 0);
+    fill(src, 32, 8388608);
+    expect("DCT4 pass at shift 0", mizdrek_pass(4, 0, 0, 4, src, 16, dst, 16), 16);
+    expect("DCT4 pass at shift 0, wrapped", dst[0], INT32_MIN);
+    expect_all("DCT4 pass at shift 0, wrapped, others", dst + 1, 3, 0);
     fill(dst, 32, 7);
+    expect("pass at shift -1", mizdrek_pass(8, 1, -1, 4, src, 32, dst, 32), -MIZDREK_BAD_SIZE);
     expect("pass at shift 16", mizdrek_pass(8, 1, 16, 4, src, 32, dst, 32), -MIZDREK_BAD_SIZE);
     expect("pass of kind 2", mizdrek_pass(8, 2, 2, 4, src, 32, dst, 32), -MIZDREK_BAD_KIND);
     expect("pass with a short source", mizdrek_pass(8, 1, 2, 4, src, 31, dst, 32), -MIZDREK_SHORT_BUFFER);

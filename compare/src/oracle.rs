@@ -24,11 +24,21 @@ pub fn kernel(kind: u32, side: usize, f: usize, k: usize) -> i32 {
     fdct::kernel(kind == ADST, side, f, k)
 }
 
-/// The numbers that a pass writes.
+/// The numbers that a pass writes. At side 32 the scalar Rust has no shift 0, and the rule stands for it.
 pub fn pass(side: usize, kind: u32, shift: i32, lines: usize, src: &[i32]) -> Vec<i32> {
+    if (side, shift) == (32, 0) {
+        return kernel_sums(side, kind, lines, src);
+    }
     let mut dst = vec![0; side * lines];
     fdct::pass(kind == ADST, side, shift, lines, src, &mut dst);
     dst
+}
+
+/// The rule for a pass at shift 0: the sums of the Rust's kernel numbers times the samples, at 32 bits.
+pub fn kernel_sums(side: usize, kind: u32, lines: usize, src: &[i32]) -> Vec<i32> {
+    let product = |j, f, k| i64::from(kernel(kind, side, f, k)) * i64::from(src[k * lines + j]);
+    let sum = |j, f| (0..side).map(|k| product(j, f, k)).sum::<i64>() as i32;
+    (0..side * lines).map(|place| sum(place / side, place % side)).collect()
 }
 
 /// The sixteen sizes, and the kinds of each: DCT both ways, and all other pairs where ADST may be.

@@ -18,18 +18,21 @@ struct Case {
     dst: Vec<i32>,
 }
 
-/// Every start of 1, 4 and 8 lines at every size, and as many random cases as are asked for.
+/// Every start of 1, 4 and 8 lines at every size, at shift 0 and at another, and as many random cases as are asked for.
 pub fn compare(run: &mut Run) -> Outcome {
     let places = places();
     for (kind, side) in KERNELS {
         for &place in &places {
-            random_case(run, (side, kind), place)?;
+            random_case(run, (side, kind, 0), place)?;
+            let shift = run.random.within(1, 15) as i32;
+            random_case(run, (side, kind, shift), place)?;
         }
     }
     for _ in 0..run.count {
         let (kind, side) = run.random.pick(&KERNELS);
         let place = run.random.pick(&places);
-        random_case(run, (side, kind), place)?;
+        let shift = run.random.within(0, 15) as i32;
+        random_case(run, (side, kind, shift), place)?;
     }
     Ok(())
 }
@@ -47,12 +50,11 @@ fn places() -> Vec<(usize, usize, usize)> {
 
 fn random_case(
     run: &mut Run,
-    (side, kind): (usize, u32),
+    (side, kind, shift): (usize, u32, i32),
     (lines, start, count): (usize, usize, usize),
 ) -> Outcome {
     run.case();
     let random = &mut run.random;
-    let shift = random.within(1, 15) as i32;
     let more = random.pick(&[0, 0, 9]);
     let src = samples(random, side * lines + more);
     let dst = filling(random, side * lines + more);

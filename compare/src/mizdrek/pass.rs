@@ -16,7 +16,8 @@ unsafe extern "C" {
 }
 
 /// Transforms `lines` lines of `side` samples: sample k of line j is `src[k * lines + j]`, frequency f
-/// of line j goes to `dst[j * side + f]`. Kind 0 is the DCT, 1 the ADST.
+/// of line j goes to `dst[j * side + f]`. Kind 0 is the DCT, 1 the ADST. At shift 0 these are the kernel's sums,
+/// at 32 bits.
 pub fn pass(
     side: usize,
     kind: u32,

@@ -9,7 +9,7 @@ pub const RESIDUAL_LIMIT: i32 = 4095;
 
 /// A pass, by its arguments and the lengths of its two buffers.
 pub fn pass(side: usize, kind: u32, shift: i32, lines: usize, lengths: [usize; 2]) -> Result<usize, Refusal> {
-    if !is_side(side) || !is_side(lines) || !(1..=15).contains(&shift) {
+    if !is_side(side) || !is_side(lines) || !(0..=15).contains(&shift) {
         return Err(BadSize);
     }
     if !has_kernel(kind, side) {

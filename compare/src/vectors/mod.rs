@@ -1,4 +1,4 @@
-//! Writes a fixed list of the Rust's answers, for a program to replay where there is no Rust.
+//! Writes a fixed list, most of it the Rust's answers, for a program to replay where there is no Rust.
 //!
 //! One record to a line, decimal whole numbers with one space between them: the record's kind, the count
 //! of the numbers that follow, then these. A list stands behind its length. A float is its 32 bits as
@@ -18,7 +18,8 @@
 //! | 9 one place | step, factor, threshold, dead zone, coefficient | 1 kept or 0 dropped, level, magnitude |
 //!
 //! A refused record is one where the Rust panics: a size it doesn't know, a buffer or a scan that leads
-//! it past an end. The refusal's number is document 01's.
+//! it past an end. The refusal's number is document 01's. A pass of side 32 at shift 0, which the scalar Rust
+//! doesn't have, is answered by the rule.
 
 mod blocks;
 mod levels;
@@ -39,6 +40,7 @@ pub fn write(seed: u64) {
     records.extend(blocks::records(&mut random));
     records.extend(levels::records(&mut random));
     records.extend(refused::records(&mut random));
+    records.extend(passes::unshifted(&mut random));
     let mut out = BufWriter::new(stdout().lock());
     for record in &records {
         writeln!(out, "{record}").expect("standard output takes the list");

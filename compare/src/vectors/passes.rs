@@ -27,6 +27,19 @@ pub fn records(random: &mut Random) -> Vec<Record> {
     records
 }
 
+/// Passes at shift 0. At side 32 the rule stands for the Rust.
+pub fn unshifted(random: &mut Random) -> Vec<Record> {
+    let mut records = Vec::new();
+    for (kind, side) in KERNELS {
+        records.push(pass((side, kind, 0, 4), &impulse(side * 4, 0, 1)));
+        records.push(pass((side, kind, 0, 4), &filling(random, side * 4)));
+        for number in [i32::MIN, i32::MAX, 8_388_608, -1] {
+            records.push(pass((side, kind, 0, 4), &vec![number; side * 4]));
+        }
+    }
+    records
+}
+
 fn pass((side, kind, shift, lines): (usize, u32, i32, usize), src: &[i32]) -> Record {
     let dst = oracle::pass(side, kind, shift, lines, src);
     let arguments = [side as i64, kind.into(), shift.into(), lines as i64];

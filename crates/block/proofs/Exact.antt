@@ -4,16 +4,17 @@ use mathlib.Core.Path.{◌≡◌, refl, sym, ap, ap₂, ◌∙◌}
 use mathlib.Core.Bool.{true}
 use mathlib.Core.List.{List}
 use Prim.Native.Nat.{ℕ, zero, suc, ◌+◌, ◌-◌, ◌*◌, ◌/◌, ◌%◌, ◌^◌, ◌≤◌, ◌<◌}
-use native.Mathlib.Nat.{le_refl, le_trans, lt_of_le_of_lt, mul-le-mul_right, suc-mul, pow-suc, mod-lt, div-eq_of_lt, div-mul-le_self, le-div_iff_mul-le, div-lt_iff_lt-mul}
+use native.Mathlib.Nat.{le_refl, le_trans, lt_of_le_of_lt, mul-le-mul_right, suc-mul, add-zero, div-one, pow-suc, mod-lt, div-eq_of_lt, div-mul-le_self, le-div_iff_mul-le, div-lt_iff_lt-mul}
 use native.Mathlib.Omega.{arith}
 use lib.Arith.{digits_lt, digits_div, digits_mod}
 use borrow.Author.Tests.{leb-true}
 use lib.Dec.{leb}
-use lib.IntN.{ℤ, pos, negsuc, nat_abs, ◌+ℤ◌, ◌*ℤ◌}
+use lib.IntN.{ℤ, pos, negsuc, nat_abs, ◌+ℤ◌, ◌*ℤ◌, +ℤ_idr}
 use lib.ListN.{get_or}
 use lib.Pow.{pow_pos, pow_mono}
 use Rattle.laws.specs.Integer.{floor_div}
 use Rattle.laws.specs.Store.{laid}
+use Rattle.laws.proofs.Divide.{floor_div_one}
 use Rattle.laws.proofs.Laid.{get_or_tab, laid_ext}
 use Rattle.laws.proofs.Place.{place_of}
 use Rattle.laws.proofs.Size.{sub_ℕ_cases, nat_abs-+ℤ, mag_nat_abs}
@@ -53,10 +54,10 @@ near_size (negsuc n) g some =
 unfoldable pub round_size : ℕ → ℕ → ℕ
 round_size s b = (b + nat_abs (half s)) / 2 ^ s
 
-pub round_size_lem : (s : ℕ) (z : ℤ) {b : ℕ} → 1 ≤ s → nat_abs z ≤ b → nat_abs (round_exact s z) ≤ round_size s b
+pub round_size_lem : (s : ℕ) (z : ℤ) {b : ℕ} → nat_abs z ≤ b → nat_abs (round_exact s z) ≤ round_size s b
 unfolding round_exact floor_shift half round_size
-round_size_lem zero z some small = absurd (omega arith)
-round_size_lem (suc s) z some small =
+round_size_lem zero z {b} small = simp (+ℤ_idr, floor_div_one, add-zero, div-one) small
+round_size_lem (suc s) z small =
     let two : 2 ^ suc s ≡ 2 ^ s + 2 ^ s = omega (arith, pow-suc 2 s) in
     rw two (le_trans (near_size z (2 ^ s) (pow_pos s)) (div_mono (2 ^ s + 2 ^ s) (omega (arith, pow_pos s)) (omega arith)))
 
@@ -147,7 +148,7 @@ module _ (w h ck : ℕ) (residuals : List ℤ) (sw : is_side w ≡ true) (sh : i
 
   column_size_lem : (j f : ℕ) → j < w → f < h → nat_abs (column_at w h ck residuals j f) ≤ column_size w h
   unfolding column_at column_size
-  column_size_lem j f bj bf = round_size_lem (first_shift w h) (pass_sum ck h w residuals j f) (shift_bounds w h sw sh).first_low (column_sum j f bj bf)
+  column_size_lem j f bj bf = round_size_lem (first_shift w h) (pass_sum ck h w residuals j f) (column_sum j f bj bf)
 
   columns_size : (p : ℕ) → p < w * h → nat_abs (get_or (columns w h ck residuals) p (pos 0)) ≤ column_size w h
   unfolding columns

@@ -1,14 +1,14 @@
 -- All the lines of an accepted block: what its two buffers hold afterwards. Assumes nothing.
-use mathlib.Core.Path.{◌≡◌, refl, sym, ap, ap₂, ◌∙◌}
+use mathlib.Core.Path.{◌≡◌, refl, ap, ◌∙◌}
 use mathlib.Core.List.{List}
 use Prim.Native.Nat.{ℕ, ◌+◌, ◌*◌, ◌/◌, ◌%◌, ◌≤◌, ◌<◌}
-use native.Mathlib.Nat.{zero-add, mul_comm}
+use native.Mathlib.Nat.{mul_comm}
 use native.Mathlib.Omega.{arith}
-use lib.Arith.{digits_lt, digits_div, digits_mod}
 use lib.IntN.{ℤ, pos, nat_abs}
 use lib.ListN.{length, get_or}
 use Rattle.laws.specs.Store.{laid}
-use Rattle.laws.proofs.Laid.{laid_at, laid_from_zero}
+use Rattle.laws.proofs.Filled.{front_line}
+use Rattle.laws.proofs.Laid.{laid_from_zero}
 use Rattle.residual.proofs.Residual.{residual_size}
 use Rattle.block.specs.Block.{column_at, row_at}
 use Rattle.block.specs.Lines.{column_lines, row_lines}
@@ -37,9 +37,7 @@ module _ {w h ck rk : ℕ} {residuals : List ℤ} {ls lo : ℕ} (a : Accepted w 
   held : (scratch : List ℤ) → w * h ≤ length scratch → {s : List ℤ} → s ≡ column_lines w h ck residuals 0 w scratch
       → (j f : ℕ) → j < w → f < h → get_or s (j * h + f) (pos 0) ≡ column_at w h ck residuals j f
   held scratch long e j f bj bf =
-      ap₂ (λ (l : List ℤ) (p : ℕ). get_or l p (pos 0)) (all_columns scratch e) (sym (zero-add (j * h + f)))
-      ∙ laid_at scratch 0 (w * h) (λ p. column_at w h ck residuals (p / h) (p % h)) (omega arith) (j * h + f) (pos 0) (digits_lt bj bf)
-      ∙ ap₂ (column_at w h ck residuals) (digits_div j bf) (digits_mod j bf)
+      ap (λ (l : List ℤ). get_or l (j * h + f) (pos 0)) (all_columns scratch e) ∙ front_line scratch w h (column_at w h ck residuals) (pos 0) long j f bj bf
 
   pub all_rows : (scratch output : List ℤ) → w * h ≤ length scratch → {s o : List ℤ} → s ≡ column_lines w h ck residuals 0 w scratch
       → o ≡ row_lines w h rk s 0 h output → o ≡ laid output 0 (w * h) (λ p. row_at w h ck rk residuals (p / w) (p % w))

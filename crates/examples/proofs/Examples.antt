@@ -1,4 +1,4 @@
--- Document 01's entries marked P hold, by computing. Assumes nothing.
+-- The entries of the list hold, by computing. Assumes nothing.
 use lib.Dec.{T}
 use lib.Ieee.{add, sub, mul, div, le, of_int, to_bits}
 use Rattle.laws.specs.Integer.{wrap_at, wrap32}

@@ -1,4 +1,4 @@
--- Document 01's entries marked P, "Frames on the light table", as one list over the definitions.
+-- Document 01's entries marked P, "Frames on the light table", and passes at shift 0, as one list over the definitions.
 use Rattle.std.specs.Prelude.{Bool, true, false, ◌&&◌, List, [], ◌∷◌, ◌++◌, map, ℕ, ◌*◌, ◌/◌, ◌%◌, ℤ, pos, negsuc, neg_ℤ, Float, take, replicate}
 use Rattle.std.specs.Float.{fin, binary32}
 use Rattle.std.specs.Float.Ieee.{to_bits}
@@ -49,7 +49,7 @@ all n z = replicate n z
 abbrev first : ℤ → ℕ → List ℤ
 first z n = z ∷ replicate n (pos 0)
 
--- what a definition gives, and what document 01 says. Where document 01 names the first number alone, so does the entry
+-- what a definition gives, and what it is to give. Where document 01 names the first number alone, so does the entry
 unfoldable pub examples : List (List ℤ × List ℤ)
 examples =
     -- "4×4 DCT, all 1: first 32, others 0. All -1: first -32, others 0."
@@ -67,6 +67,10 @@ examples =
     ∷ (pass 1 8 2 (first (pos 1) 7), map pos (3 ∷ 9 ∷ 14 ∷ 18 ∷ 21 ∷ 22 ∷ 20 ∷ 13 ∷ []))
     -- "DCT4 pass, shift 1, four samples of 8388608: first -1073741824, others 0."
     ∷ (pass 0 4 1 (all 4 (pos 8388608)), first (negsuc 1073741823) 3)
+    -- "raw kernel sums with shift 0": a line with only its first sample 1 gives the kernel's first column, and sums wrap at 32 bits
+    ∷ (pass 0 4 0 (first (pos 1) 3), map pos (64 ∷ 83 ∷ 64 ∷ 35 ∷ []))
+    ∷ (pass 1 8 0 (first (pos 1) 7), map pos (11 ∷ 34 ∷ 54 ∷ 71 ∷ 84 ∷ 88 ∷ 79 ∷ 50 ∷ []))
+    ∷ (pass 0 4 0 (all 4 (pos 8388608)), first (negsuc 2147483647) 3)
     -- "WHT, only the last residual 1: 1 -1 0 -1; 0 0 -1 0; 0 0 0 0; 0 0 -1 0. All 8: first 32, others 0."
     ∷ (
       wht (all 15 (pos 0) ++ (pos 1 ∷ [])),
@@ -94,7 +98,7 @@ same [] (b ∷ s) = false
 same (a ∷ r) [] = false
 same (a ∷ r) (b ∷ s) = eq_ℤ a b && same r s
 
--- each definition gives what document 01 says
+-- each definition gives what it is to give
 unfoldable pub all_right : List (List ℤ × List ℤ) → Bool
 all_right [] = true
 all_right (e ∷ es) = same e.0 e.1 && all_right es

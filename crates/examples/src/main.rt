@@ -1,4 +1,4 @@
-// Document 01's entries under "Frames on the light table" that aren't marked P, run: a line for each. Those marked P are the list of
+// Document 01's entries under "Frames on the light table" that aren't marked P, run: a line for each. Those marked P stand in the list of
 // specs/Examples.antt. And a list of batches, played, a preview beside its batch, two rooms on one plane, and
 // the lighter of two trials.
 #![tactic(auto)]

@@ -3,12 +3,14 @@
 #![tactic(auto)]
 
 mod limit;
+mod rounding;
 
-ghost use Rattle.std.specs.Prelude.{◌≡◌, ◌≤◌, ◌+ℤ◌, ◌-ℤ◌, ◌*ℤ◌};
+ghost use Rattle.std.specs.Prelude.{◌≡◌, ◌+ℤ◌, ◌-ℤ◌, ◌*ℤ◌};
 ghost use Rattle.laws.specs.Integer.{wrap32};
-ghost use Rattle.fixed.specs.Fixed.{round_shift, scaled};
+ghost use Rattle.fixed.specs.Fixed.{scaled};
 
 pub use limit::{all_within, is_within};
+pub use rounding::Shift;
 
 // The low 32 bits of x, read as signed.
 #[inline(always)]
@@ -38,23 +40,6 @@ pub fn wrapping_mul(a: i32, b: i32) -> i32
     ensures { result ≡ wrap32 (a *ℤ b) }
 {
     wrap(i64::from(a) * i64::from(b))
-}
-
-// The shift of a pass.
-#[derive(Clone, Copy)]
-pub struct Shift {
-    pub bits: u32,
-    ghost in_range: { (1 ≤ bits) × (bits ≤ 15) },
-}
-
-impl Shift {
-    // x / 2 ^ bits, rounded to the nearest, halves upward. The sum with the half wraps.
-    #[inline(always)]
-    pub fn round(self, x: i32) -> i32
-        ensures { result ≡ round_shift self.bits x }
-    {
-        wrapping_add(x, 1 << (self.bits - 1)) >> self.bits
-    }
 }
 
 // v times 5793 / 4096, which is close to the square root of 2, rounded. Worked at 64 bits.

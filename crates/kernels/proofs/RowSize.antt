@@ -4,10 +4,12 @@ use mathlib.Core.Bool.{true, false, false≢true}
 use Prim.Native.Nat.{ℕ, zero, suc, ◌*◌, ◌≤◌, ◌<◌}
 use native.Mathlib.Omega.{arith}
 use lib.Dec.{leb}
+use lib.IntN.{nat_abs}
 use borrow.Author.Tests.{leb-true, ne_eqb}
 use Rattle.laws.specs.Sum.{sum_ℕ}
 use Rattle.laws.specs.Table.{every}
 use Rattle.laws.proofs.Every.{every_each}
+use Rattle.laws.proofs.Sum.{sum_within}
 use Rattle.sizes.specs.Size.{is_side}
 use Rattle.sizes.proofs.Side.{each_side}
 use Rattle.kernels.specs.Dct.{dct, dct32}
@@ -41,3 +43,8 @@ row_size_lem (suc (suc kind)) = λ n s. none (suc (suc kind)) n (λ e. false≢t
 pub row_sums : RowSums
 unfolding Within SmallRows
 row_sums kind n s = row_size_lem kind n s
+
+-- no number of a row is larger
+pub number_size : (kind n f k : ℕ) → is_side n ≡ true → has_kernel kind n ≡ true → f < n → k < n → nat_abs (kernel kind n f k) ≤ 64 * n
+unfolding Within row_size
+number_size kind n f k s has bf bk = omega (arith, sum_within n (λ k. nat_abs (kernel kind n f k)) k bk, row_size_lem kind n s has f bf)

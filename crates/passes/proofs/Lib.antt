@@ -1,2 +1,4 @@
 pub mod Accepted
 pub mod Going
+pub mod Unshifted
+pub mod Examples

@@ -1,16 +1,13 @@
 -- A pass's call: its answer, and its output afterwards.
-use Rattle.std.specs.Prelude.{Bool, not, ◌&&◌, ◌||◌, List, [], ◌∷◌, ℕ, ◌*◌, ltb, ℤ, pos, nat_abs, length}
-use Rattle.std.specs.Int.Signed.{le_z}
+use Rattle.std.specs.Prelude.{not, ◌&&◌, ◌||◌, List, [], ◌∷◌, ℕ, ◌*◌, ltb, ℤ, nat_abs, length}
 use Rattle.answer.specs.Answer.{Answer, lowest, after}
+use Rattle.fixed.specs.Fixed.{is_shift}
 use Rattle.sizes.specs.Size.{is_side}
 use Rattle.kernels.specs.Kernel.{has_kernel}
 use Rattle.lines.specs.Pass.{pass_lines}
 
--- "a pass shift isn't 1 to 15"
-unfoldable pub is_shift : ℤ → Bool
-is_shift shift = le_z (pos 1) shift && le_z shift (pos 15)
-
--- "passes 1 to 3"; ls and ld are the lengths of src and dst. "A pass answers side times lines, the count of numbers written."
+-- "passes 1 to 3", and of a shift "Number 1 now begins at shift 16, or below 0"; ls and ld are the lengths of src and dst. "A pass answers side times
+-- lines, the count of numbers written."
 unfoldable pub pass_answer : ℕ → ℕ → ℤ → ℕ → ℕ → ℕ → Answer
 pass_answer side kind shift lines ls ld =
     lowest

@@ -3,15 +3,14 @@
 
 mod stages;
 
-ghost use Rattle.std.specs.Prelude.{◌≡◌, true, false, pos, length, IfOk, MatchResult};
+ghost use Rattle.std.specs.Prelude.{◌≡◌, true, pos, length, IfOk};
 ghost use Rattle.answer.specs.Answer.{told};
-ghost use Rattle.answer.specs.declared.Refusal.TheVariants.{BadSize};
 ghost use Rattle.sizes.specs.Size.{is_side};
 ghost use Rattle.kernels.specs.Kernel.{has_kernel};
 ghost use Rattle.kernels.specs.Kind.{kind_number};
 ghost use Rattle.lines.specs.Pass.{pass_lines};
 ghost use Rattle.lines.specs.Room.{PassRoom};
-ghost use Rattle.passes.specs.Call.{is_shift, pass_answer, pass_after};
+ghost use Rattle.passes.specs.Call.{pass_answer, pass_after};
 ghost use Rattle.passes.specs.Admitted.{admitted};
 
 use answer::{Outcome, Refusal};
@@ -20,18 +19,6 @@ use kernels::Kind;
 use lines::{Source, each_line};
 use sizes::Size;
 use stages::Plain;
-
-// The shift of this number, which is to be from 1 to 15.
-#[tactic(auto, unfolding(crate::specs::Call::is_shift))]
-#[inline(always)]
-fn shift_of(shift: i32) -> Result<Shift, Refusal>
-    ensures { MatchResult result (λ s. (pos s.bits ≡ shift) × (is_shift shift ≡ true)) (λ why. (why ≡ BadSize) × (is_shift shift ≡ false)) }
-{
-    if (1 <= shift) & (shift <= 15) {
-        return Ok(Shift { bits: shift as u32 });
-    }
-    Err(Refusal::BadSize)
-}
 
 // A pass that may run: as many numbers a line as w and as many lines as h, its kind and its shift.
 #[derive(Clone, Copy)]
@@ -56,7 +43,7 @@ pub fn admit(
     ensures as_asked { IfOk result (λ p. (p.size.w ≡ side) × (p.size.h ≡ lines) × (kind_number p.kind ≡ kind) × (pos p.shift.bits ≡ shift)) }
 {
     let size = Size::new(side, lines)?;
-    let shift = shift_of(shift)?;
+    let shift = Shift::new(shift)?;
     let kind = Kind::new(kind, side)?;
     if (src < size.places()) | (dst < size.places()) {
         return Err(Refusal::ShortBuffer);
@@ -64,7 +51,7 @@ pub fn admit(
     Ok(ValidPass { size, kind, shift })
 }
 
-// One pass: this many lines of side numbers each, input src[k × lines + j], output dst[j × side + f].
+// One pass: this many lines of side numbers each, input src[k × lines + j], output dst[j × side + f]. At shift 0 it writes the raw kernel sums.
 pub fn pass(
     side: usize,
     kind: u32,

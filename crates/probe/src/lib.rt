@@ -65,7 +65,7 @@ pub extern "C" fn probe_adst4(table: &mut [i8; 16])
 
 // The first shift times 16 plus the second; 0 for a size that there isn't.
 #[unsafe(no_mangle)]
-#[tactic(auto, unfolding(crate::specs::Shifts::shift_pair))]
+#[tactic(auto, unfolding(crate::specs::Shifts::shift_pair), using(fixed::proofs::Shifted::shift_small))]
 pub extern "C" fn probe_shifts(w: usize, h: usize) -> u32
     ensures { result ≡ shift_pair w h }
 {

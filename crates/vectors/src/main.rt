@@ -1,4 +1,4 @@
-// Replays a fixed list of the Rust's answers, data/answers, and prints how many there are, or the first that differs. No Rust is needed.
+// Replays the records of data/answers, most of them the Rust's answers, and prints how many there are, or the first that differs. No Rust is needed.
 //
 // The list was written by the comparison's driver, which calls the Rust itself:
 //     cd compare && cargo run --release -- vectors > ../crates/vectors/data/answers

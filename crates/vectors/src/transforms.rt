@@ -15,24 +15,24 @@ fn at(buffer: &[i32], place: usize) -> i32 {
     }
 }
 
-// 2 at every place n + 1 apart: on the diagonal of n × n numbers.
+// 1 at every place n + 1 apart: on the diagonal of n × n numbers.
 fn fill_diagonal(n: usize, buffer: &mut [i32])
     requires { n ≤ 1024 }
 {
     for row in buffer.chunks_mut(n + 1) {
         if let Some(first) = row.first_mut() {
-            *first = 2;
+            *first = 1;
         }
     }
 }
 
-// A kernel shows in a pass: line k has 2 at sample k alone, and shift 1 halves what that makes.
+// A kernel shows in a pass at shift 0: of line k sample k alone is 1.
 pub fn kernel(numbers: &[Number]) -> bool {
     let side = record::count(numbers, 1);
     let mut src = [0i32; 1024];
     let mut dst = [0i32; 1024];
     fill_diagonal(side, &mut src);
-    match passes::pass(side, record::unsigned(numbers, 0), 1, side, &src, &mut dst) {
+    match passes::pass(side, record::unsigned(numbers, 0), 0, side, &src, &mut dst) {
         Ok(n) => is_turned(numbers, side, n, &dst),
         Err(_) => false,
     }
