@@ -50,6 +50,8 @@ pub fn compare(names: &[String], seed: u64, count: u64) -> bool {
         let outcome = (group.compare)(&mut run);
         run.end(outcome)
     });
-    println!("seed {seed}, count {count}. ADST8's 64 numbers are reconstructed, and the same on both sides: docs/DIFFERENCES.md");
+    println!(
+        "seed {seed}, count {count}. ADST8's 64 numbers are reconstructed, and the same on both sides: docs/DIFFERENCES.md"
+    );
     same
 }

@@ -1,4 +1,4 @@
-//! The seven kernel tables, the sixteen pairs of shifts and the DC scale.
+//! The seven kernels, the sixteen pairs of shifts and the DC scale.
 
 use super::Run;
 use crate::av2::fdct;
@@ -28,7 +28,7 @@ pub fn compare(run: &mut Run) -> Outcome {
     Ok(())
 }
 
-/// Every number of one table.
+/// Every number of one kernel.
 fn kernel(run: &mut Run, kind: u32, side: usize) -> Outcome {
     for f in 0..side {
         for k in 0..side {

@@ -1,12 +1,10 @@
 //! The numbers that the calls stand on.
 
+use crate::oracle::{ADST, DCT};
 use std::sync::OnceLock;
 
 unsafe extern "C" {
     fn probe_dct32(table: *mut i8);
-    fn probe_dct16(table: *mut i8);
-    fn probe_dct8(table: *mut i8);
-    fn probe_dct4(table: *mut i8);
     fn probe_adst16(table: *mut i8);
     fn probe_adst8(table: *mut i8);
     fn probe_adst4(table: *mut i8);
@@ -28,33 +26,30 @@ impl Table {
         Table { kind, side, numbers }
     }
 
-    /// ADST8 is read turned, as document 01 has it.
+    /// Frequency f, sample k. The DCT is row by row, and the ADST sample by sample.
     fn number(&self, f: usize, k: usize) -> i32 {
-        let turned = (self.kind, self.side) == (1, 8);
-        let place = if turned { k * self.side + f } else { f * self.side + k };
+        let place = if self.kind == DCT { f * self.side + k } else { k * self.side + f };
         self.numbers[place] as i32
     }
 }
 
-fn tables() -> &'static [Table; 7] {
-    static TABLES: OnceLock<[Table; 7]> = OnceLock::new();
+fn tables() -> &'static [Table; 4] {
+    static TABLES: OnceLock<[Table; 4]> = OnceLock::new();
     TABLES.get_or_init(|| {
         [
-            Table::new(0, 32, probe_dct32),
-            Table::new(0, 16, probe_dct16),
-            Table::new(0, 8, probe_dct8),
-            Table::new(0, 4, probe_dct4),
-            Table::new(1, 16, probe_adst16),
-            Table::new(1, 8, probe_adst8),
-            Table::new(1, 4, probe_adst4),
+            Table::new(DCT, 32, probe_dct32),
+            Table::new(ADST, 16, probe_adst16),
+            Table::new(ADST, 8, probe_adst8),
+            Table::new(ADST, 4, probe_adst4),
         ]
     })
 }
 
-/// The kernel number in row `f`, column `k`; 0 where there is none.
+/// The kernel number of frequency `f`, sample `k`: row f of a smaller DCT is row 32f / n of the largest, cut to n columns.
 pub fn kernel(kind: u32, side: usize, f: usize, k: usize) -> i32 {
-    let found = tables().iter().find(|table| table.kind == kind && table.side == side);
-    found.filter(|_| f < side && k < side).map_or(0, |table| table.number(f, k))
+    let (side, row) = if kind == DCT { (32, 32 * f / side) } else { (side, f) };
+    let table = tables().iter().find(|table| table.kind == kind && table.side == side);
+    table.expect("a table of a kind and a side that there are").number(row, k)
 }
 
 /// The first shift times 16 plus the second; 0 for a size that there isn't.

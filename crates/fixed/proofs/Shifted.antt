@@ -2,7 +2,7 @@
 use mathlib.Core.Path.{◌≡◌, refl, ap, ◌∙◌}
 use mathlib.Core.Bool.{true}
 use Prim.Native.Nat.{ℕ, zero, suc, ◌*◌, ◌%◌, ◌^◌, ◌<◌}
-use native.Mathlib.Nat.{lt_of_le_of_lt, one-mul, pow-suc, mod-eq_of_lt}
+use native.Mathlib.Nat.{lt_of_le_of_lt, pow-suc}
 use native.Mathlib.Omega.{arith}
 use lib.Pow.{pow-lt}
 use lib.Signed.{mag, shr_z, mag_shr}
@@ -12,7 +12,7 @@ use mir.Val.{to_z, of_z, hbits}
 use mir.Facts.{to_z_pos}
 use Rattle.laws.specs.Integer.{floor_div}
 use Rattle.laws.proofs.Divide.{shr_floor}
-use Rattle.laws.proofs.Machine.{read_at}
+use Rattle.laws.proofs.Machine.{read_at, one_shl}
 use Rattle.fixed.specs.Fixed.{is_shift, floor_shift, half}
 
 -- `z >> s` at w bits
@@ -37,7 +37,7 @@ unit_half (suc k) = ap pos (omega (arith, pow-suc 2 k))
 pub half_read : (s : ℕ) → s < 31 → to_z w32 (of_z w32 (shr_z (to_z w32 ((1 * 2 ^ s) % 2 ^ 32)) 2)) ≡ half s
 half_read s p =
     ap (λ (z : ℤ). to_z w32 (of_z w32 (shr_z z 2)))
-    (ap (λ (n : ℕ). to_z w32 (n % 2 ^ 32)) (one-mul (2 ^ s)) ∙ ap (to_z w32) (mod-eq_of_lt (pow-lt below)) ∙ to_z_pos w32 (pow-lt p))
+    (ap (to_z w32) (one_shl 32 s below) ∙ to_z_pos w32 (pow-lt p))
     ∙ read_at w32 (shr_z (pos (2 ^ s)) 2) (lt_of_le_of_lt (mag_shr (pos (2 ^ s)) 2) (pow-lt p)) ∙ shr_floor (pos (2 ^ s)) 2 ∙ unit_half s
   where
     below : s < 32

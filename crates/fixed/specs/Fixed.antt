@@ -24,6 +24,10 @@ round_exact s z = floor_shift s (z +ℤ half s)
 unfoldable pub round_shift : ℕ → ℤ → ℤ
 round_shift s z = floor_shift s (wrap32 (z +ℤ half s))
 
+-- a rounding as a pass makes it: the sum begins at the half, and is shifted when all is added. At shift 0 it begins at 0
+abbrev pub StartsAtHalf : Type 0
+StartsAtHalf = (s : ℕ) (z : ℤ) → floor_shift s (wrap32 (half s +ℤ z)) ≡ round_shift s z
+
 -- "floor((5793v + 2048)/4096)"
 unfoldable pub scaled : ℤ → ℤ
 scaled v = floor_div (pos 5793 *ℤ v +ℤ pos 2048) 4096

@@ -10,7 +10,7 @@ ghost use Rattle.laws.specs.Integer.{wrap32};
 ghost use Rattle.fixed.specs.Fixed.{scaled};
 
 pub use limit::{all_within, is_within};
-pub use rounding::Shift;
+pub use rounding::{Rounding, Shift};
 
 // The low 32 bits of x, read as signed.
 #[inline(always)]

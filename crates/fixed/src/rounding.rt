@@ -1,9 +1,8 @@
-// The shift of a pass, and the rounding rule.
+// The shift of a pass, and the rounding rule: a sum that begins at a half, and a shift.
 ghost use Rattle.std.specs.Prelude.{◌≡◌, true, false, pos, MatchResult};
 ghost use Rattle.answer.specs.declared.Refusal.TheVariants.{BadSize};
-ghost use Rattle.fixed.specs.Fixed.{is_shift, half, round_shift};
+ghost use Rattle.fixed.specs.Fixed.{is_shift, floor_shift};
 
-use super::wrapping_add;
 use answer::Refusal;
 
 #[derive(Clone, Copy)]
@@ -25,21 +24,34 @@ impl Shift {
         Err(Refusal::BadSize)
     }
 
-    // Half of the unit that the shift drops. A shift of 0 drops none, and its half is 0.
+    // What a pass builds before its loops: the half of the unit that the shift drops. A shift of 0 drops none, and its half is 0.
     #[tactic(auto, using(crate::proofs::Shifted::shift_small))]
     #[inline(always)]
-    fn half(self) -> i32
-        ensures { result ≡ half self.bits }
+    pub fn rounding(self) -> Rounding
+        ensures { result.shift.bits ≡ self.bits }
     {
-        (1 << self.bits) >> 1
+        Rounding {
+            half: (1 << self.bits) >> 1,
+            shift: self,
+        }
     }
+}
 
-    // x / 2 ^ bits, rounded to the nearest, halves upward. The sum with the half wraps.
+// A shift with its half, built once.
+#[derive(Clone, Copy)]
+pub struct Rounding {
+    pub half: i32,
+    pub shift: Shift,
+    ghost built: { half ≡ Rattle.fixed.specs.Fixed.half shift.bits },
+}
+
+impl Rounding {
+    // What is left to do of a sum that began at the half: it is divided by 2 ^ bits, rounded down.
     #[tactic(auto, using(crate::proofs::Shifted::shift_small))]
     #[inline(always)]
-    pub fn round(self, x: i32) -> i32
-        ensures { result ≡ round_shift self.bits x }
+    pub fn finish(self, sum: i32) -> i32
+        ensures { result ≡ floor_shift self.shift.bits sum }
     {
-        wrapping_add(x, self.half()) >> self.bits
+        sum >> self.shift.bits
     }
 }

@@ -1,5 +1,5 @@
 -- The DCT kernels ("A pass", "kernels"). The repository's numbers decide, not those of H.265.
-use Rattle.std.specs.Prelude.{List, [], ◌∷◌, ◌++◌, ℕ, zero, suc, ◌+◌, ◌*◌, ◌/◌, ℤ, pos, negsuc, get_or, take, drop}
+use Rattle.std.specs.Prelude.{List, [], ◌∷◌, ℕ, ◌+◌, ◌*◌, ◌/◌, ℤ, pos, negsuc, get_or}
 
 -- the kernel of side 32, row by row
 unfoldable pub dct32 : List ℤ
@@ -45,8 +45,3 @@ row_start n f = 32 * f / n * 32
 -- frequency f, sample k at side n
 unfoldable pub dct : ℕ → ℕ → ℕ → ℤ
 dct n f k = get_or dct32 (row_start n f + k) (pos 0)
-
--- the first m rows of the kernel of side n, one after another. No public contract mentions them
-unfoldable pub dct_rows : ℕ → ℕ → List ℤ
-dct_rows n zero = []
-dct_rows n (suc f) = dct_rows n f ++ take n (drop (row_start n f) dct32)

@@ -1,5 +1,6 @@
 -- One kernel number by kind, side, frequency and sample: what every pass is made of.
-use Rattle.std.specs.Prelude.{◌≡◌, Bool, true, ◌&&◌, ◌||◌, not, ℕ, zero, suc, ◌*◌, ◌≤◌, ◌<◌, eqb, ℤ, pos, nat_abs}
+use Rattle.std.specs.Prelude.{◌≡◌, Bool, true, ◌&&◌, ◌||◌, not, List, ℕ, zero, suc, ◌*◌, ◌/◌, ◌%◌, ◌≤◌, ◌<◌, eqb, ℤ, pos, nat_abs}
+use Rattle.laws.specs.Store.{tab}
 use Rattle.laws.specs.Sum.{sum_ℕ}
 use Rattle.sizes.specs.Size.{is_side}
 use Rattle.kernels.specs.Dct.{dct}
@@ -10,6 +11,10 @@ unfoldable pub kernel : ℕ → ℕ → ℕ → ℕ → ℤ
 kernel zero n f k = dct n f k
 kernel (suc zero) n f k = adst n f k
 kernel (suc (suc kind)) n f k = pos 0
+
+-- all of a kernel's numbers, those of a sample side by side: frequency f, sample k at place k × n + f. No public contract mentions it
+unfoldable pub by_sample : ℕ → ℕ → List ℤ
+by_sample kind n = tab (n * n) (λ p. kernel kind n (p % n) (p / n))
 
 -- whether there is a kernel of this kind at side n: a kind is 0 or 1, and there is no ADST at side 32
 unfoldable pub has_kernel : ℕ → ℕ → Bool

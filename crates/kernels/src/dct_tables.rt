@@ -1,6 +1,6 @@
-// The DCT kernels, row by row. ../specs/Dct.antt has their numbers from the repository.
+// The DCT kernel of side 32. ../specs/Dct.antt has the repository's numbers, and every smaller DCT as rows of them.
 ghost use Rattle.std.specs.Prelude.{◌≡◌};
-ghost use Rattle.kernels.specs.Dct.{dct32, dct_rows};
+ghost use Rattle.kernels.specs.Dct.{dct32};
 
 static DCT32: [i8; 1024] = [
     64, 64, 64, 64, 64, 64, 64, 64, 64, 64, 64, 64, 64, 64, 64, 64, 64, 64, 64, 64, 64, 64, 64, 64,
@@ -61,56 +61,4 @@ pub fn dct32() -> &'static [i8; 1024]
     ensures { result.now ≡ dct32 }
 {
     &DCT32
-}
-
-static DCT16: [i8; 256] = [
-    64, 64, 64, 64, 64, 64, 64, 64, 64, 64, 64, 64, 64, 64, 64, 64, 90, 87, 80, 70, 57, 43, 26, 9,
-    -9, -26, -43, -57, -70, -80, -87, -90, 89, 75, 50, 18, -18, -50, -75, -89, -89, -75, -50, -18,
-    18, 50, 75, 89, 87, 57, 9, -43, -80, -90, -70, -26, 26, 70, 90, 80, 43, -9, -57, -87, 83, 35,
-    -35, -83, -83, -35, 35, 83, 83, 35, -35, -83, -83, -35, 35, 83, 80, 9, -70, -87, -26, 57, 90,
-    43, -43, -90, -57, 26, 87, 70, -9, -80, 75, -18, -89, -50, 50, 89, 18, -75, -75, 18, 89, 50,
-    -50, -89, -18, 75, 70, -43, -87, 9, 90, 26, -80, -57, 57, 80, -26, -90, -9, 87, 43, -70, 64,
-    -64, -64, 64, 64, -64, -64, 64, 64, -64, -64, 64, 64, -64, -64, 64, 57, -80, -26, 90, -9, -87,
-    43, 70, -70, -43, 87, 9, -90, 26, 80, -57, 50, -89, 18, 75, -75, -18, 89, -50, -50, 89, -18,
-    -75, 75, 18, -89, 50, 43, -90, 57, 26, -87, 70, 9, -80, 80, -9, -70, 87, -26, -57, 90, -43, 35,
-    -83, 83, -35, -35, 83, -83, 35, 35, -83, 83, -35, -35, 83, -83, 35, 26, -70, 90, -80, 43, 9,
-    -57, 87, -87, 57, -9, -43, 80, -90, 70, -26, 18, -50, 75, -89, 89, -75, 50, -18, -18, 50, -75,
-    89, -89, 75, -50, 18, 9, -26, 43, -57, 70, -80, 87, -90, 90, -87, 80, -70, 57, -43, 26, -9,
-];
-
-// That of side 16: place f × 16 + k.
-#[tactic(auto, unfolding(crate::specs::Dct::dct32, crate::specs::Dct::dct_rows))]
-#[inline(always)]
-pub fn dct16() -> &'static [i8; 256]
-    ensures { result.now ≡ dct_rows 16 16 }
-{
-    &DCT16
-}
-
-static DCT8: [i8; 64] = [
-    64, 64, 64, 64, 64, 64, 64, 64, 89, 75, 50, 18, -18, -50, -75, -89, 83, 35, -35, -83, -83, -35,
-    35, 83, 75, -18, -89, -50, 50, 89, 18, -75, 64, -64, -64, 64, 64, -64, -64, 64, 50, -89, 18,
-    75, -75, -18, 89, -50, 35, -83, 83, -35, -35, 83, -83, 35, 18, -50, 75, -89, 89, -75, 50, -18,
-];
-
-// That of side 8: place f × 8 + k.
-#[tactic(auto, unfolding(crate::specs::Dct::dct32, crate::specs::Dct::dct_rows))]
-#[inline(always)]
-pub fn dct8() -> &'static [i8; 64]
-    ensures { result.now ≡ dct_rows 8 8 }
-{
-    &DCT8
-}
-
-static DCT4: [i8; 16] = [
-    64, 64, 64, 64, 83, 35, -35, -83, 64, -64, -64, 64, 35, -83, 83, -35,
-];
-
-// That of side 4: place f × 4 + k.
-#[tactic(auto, unfolding(crate::specs::Dct::dct32, crate::specs::Dct::dct_rows))]
-#[inline(always)]
-pub fn dct4() -> &'static [i8; 16]
-    ensures { result.now ≡ dct_rows 4 4 }
-{
-    &DCT4
 }

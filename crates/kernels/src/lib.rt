@@ -1,4 +1,4 @@
-// The transform kernels, as tables. A pass takes its table once and lends it to its loops.
+// The transform kernels, as tables. A pass widens what it reads of one once, before its loops.
 #![tactic(auto)]
 
 mod adst_tables;
@@ -11,7 +11,7 @@ ghost use Rattle.kernels.specs.Kind.{kind_number};
 
 pub use adst_tables::{adst4, adst8, adst16};
 use answer::Refusal;
-pub use dct_tables::{dct4, dct8, dct16, dct32};
+pub use dct_tables::dct32;
 
 // The kind of a transform.
 #[derive(Clone, Copy)]

@@ -3,10 +3,10 @@
 use mathlib.Core.Path.{◌≡◌, refl, sym, ap, ◌∙◌, subst}
 use mathlib.Core.Bool.{Bool, true, false}
 use Prim.Native.Nat.{ℕ, suc, ◌-◌, ◌*◌, ◌/◌, ◌%◌, ◌^◌, ◌<◌}
-use native.Mathlib.Nat.{mod-lt}
+use native.Mathlib.Nat.{mod-lt, one-mul, mod-eq_of_lt}
 use native.Mathlib.Omega.{arith}
 use lib.Dec.{ltb}
-use lib.Pow.{pow_pos}
+use lib.Pow.{pow_pos, pow-lt}
 use lib.Signed.{mag, shr_z}
 use lib.IntN.{ℤ, pos, negsuc, ◌+ℤ◌, ◌*ℤ◌}
 use mir.Syntax.{Width, w32, w64}
@@ -106,3 +106,7 @@ wrapped_read v x e =
 -- a value of w bits, read back from its bits; every part is explicit, since none can be found from a bound
 pub read_at : (w : Width) (z : ℤ) → mag z < 2 ^ hbits w → to_z w (of_z w z) ≡ z
 read_at w z h = to_z-of_z {w = w} {z = z} (record { sfits = h })
+
+-- `1 << s`, where it fits
+pub one_shl : (w s : ℕ) → s < w → (1 * 2 ^ s) % 2 ^ w ≡ 2 ^ s
+one_shl w s h = ap (λ (n : ℕ). n % 2 ^ w) (one-mul (2 ^ s)) ∙ mod-eq_of_lt (pow-lt h)

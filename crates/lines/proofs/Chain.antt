@@ -1,68 +1,105 @@
 -- What a chain of stages asks at each length, and what it leaves. Assumes nothing.
-use mathlib.Core.Path.{◌≡◌, refl, sym, ◌∙◌, subst}
+use mathlib.Core.Path.{◌≡◌, sym, ap, ◌∙◌, subst}
 use mathlib.Core.List.{List}
-use Prim.Native.Nat.{ℕ, ◌*◌, ◌≤◌, ◌<◌}
-use native.Mathlib.Nat.{mul-one}
+use Prim.Native.Nat.{ℕ, suc, ◌+◌, ◌*◌, ◌^◌, ◌≤◌, ◌<◌}
+use native.Mathlib.Nat.{mul-one, pow-suc, mul-le-mul_left, mul-le-mul_right}
 use native.Mathlib.Omega.{arith}
+use lib.Arith.{digits_lt}
+use lib.Dec.{lit<, lit≤}
+use lib.Pow.{pow_pos}
 use lib.IntN.{ℤ, pos}
-use lib.ListN.{length, take}
-use Rattle.std.proofs.lemmas.List.{get_or-take}
+use lib.ListN.{length, get_or, take}
+use Rattle.std.proofs.lemmas.List.{get_or-take, length-take-le}
 use Rattle.laws.specs.Store.{stores}
 use Rattle.laws.proofs.Place.{twice}
-use Rattle.kernels.proofs.Mirror.{Mirrors}
-use Rattle.lines.specs.Line.{line_at, place, rounded, Halving, Halved}
+use Rattle.laws.proofs.Store.{length_stores, stores_ext, stores_front}
+use Rattle.kernels.specs.Mirror.{Symmetric}
+use Rattle.kernels.proofs.Mirror.{Mirrors, mirror, symmetry}
+use Rattle.lines.specs.Line.{line_at, itself, number, rounded, Halving, Halved}
 use Rattle.lines.specs.Stage.{Partly, Finished, Staging, Completes}
-use Rattle.lines.specs.Table.{IsDct}
-use Rattle.lines.proofs.Reach.{halving}
-use Rattle.lines.proofs.Stage.{begin, stage, finish}
+use Rattle.lines.specs.Table.{OddSquare, OddSquares}
+use Rattle.lines.proofs.Stage.{odd_place, begin, stage, finish}
 
-module _ (h step : ℕ) {fs sample count lo : ℕ} {ts : List ℤ} (r : Staging (2 * h) step fs sample count lo ts) where
-  pub halving_asked : 0 < h → (sample ≡ 1) × Halving fs h step (length ts) count lo
-  halving_asked some = (r.side_by_side, halving (2 * h * step) h step refl r.small some r.some r.kernel r.whole r.room)
+-- a stage of twice h numbers, where h is 2 ^ d
+module _ (d h : ℕ) (power : h ≡ 2 ^ d) (few : d < 5) where
+  mirrors : Mirrors (2 * h)
+  mirrors = let e : 2 ^ suc d ≡ 2 * h = omega (arith, pow-suc 2 d, power) in subst Mirrors e (mirror d few)
 
-  pub rest_asked : {count' lo' : ℕ} → count' ≡ h → lo' ≡ lo → Staging h (2 * step) fs sample count' lo' ts
-  rest_asked whole long =
-      record {
-        some = let s = r.some in omega arith;
-        small = subst (λ (n : ℕ). n ≤ 32) (sym (twice step h)) r.small;
-        kernel = subst (λ (n : ℕ). IsDct n fs ts) (sym (twice step h)) r.kernel;
-        side_by_side = r.side_by_side;
-        whole = whole;
-        room = let e = twice step h in let b = r.room in omega arith;
-      }
+  symmetric : Symmetric h
+  symmetric = subst Symmetric (sym power) (symmetry d few)
 
-  module _ (mirrors : Mirrors (2 * h)) {shift : ℕ} {xs : List ℤ} {at stride : ℕ} {o ss o₁ o' : List ℤ} (f : Halved fs h step shift ts xs at stride o ss o₁) where
-    pub completed : Completes h (2 * step) shift ss 0 1 o₁ o' → Completes (2 * h) step shift xs at stride o o'
-    completed c x p =
+  some : 0 < h
+  some = omega (arith, power, pow_pos d)
+
+  module _ (step : ℕ) {count lo : ℕ} {ts : List ℤ} (r : Staging (2 * h) step count lo ts) where
+    square : OddSquare h ts
+    square = subst (λ (k : ℕ). OddSquare k ts) (sym power) (r.squares d (omega (arith, power)))
+
+    pub halving_asked : Halving h step count lo ts
+    halving_asked =
+        let b = r.some in
+        let i : 2 * h * 1 ≤ 2 * h * step = mul-le-mul_left (2 * h) b in
+        let j : 2 * 1 * step ≤ 2 * h * step = mul-le-mul_right step (let k : 2 * 1 ≤ 2 * h = omega (arith, some) in k) in
+        record {
+          some = some;
+          few = omega (arith, r.small, mul-one (2 * h));
+          twice = r.whole;
+          spaced = omega (arith, r.small);
+          square = square;
+          stored = λ q l. let e : (2 * q + 1) * step + 0 < 2 * h * step = digits_lt (omega arith) b in omega (arith, r.room, odd_place step q);
+        }
+
+    pub rest_asked : {count' lo' : ℕ} → count' ≡ h → lo' ≡ lo → Staging h (2 * step) count' lo' ts
+    rest_asked whole long =
+        record {
+          some = let s = r.some in omega arith;
+          small = subst (λ (n : ℕ). n ≤ 32) (sym (twice step h)) r.small;
+          squares = λ e b. r.squares e (omega arith);
+          whole = whole;
+          room = let e = twice step h in let b = r.room in omega arith;
+        }
+
+    pub completed : {shift : ℕ} {z : ℕ → ℤ} {o ss o₁ o' : List ℤ} → Halved h step shift ts z o ss o₁
+        → Completes h (2 * step) shift (line_at ss 0 1) o₁ o' → Completes (2 * h) step shift z o o'
+    completed {shift} {ss = ss} {o₁ = o₁} {o'} f c x p =
         subst (λ (n : ℕ). Finished n shift x o') (twice step h)
-        (c x (subst (λ (n : ℕ). Partly n (2 * step) h shift x ss 0 1 o₁) (sym (twice step h)) (stage (2 * h * step) h step refl r.some mirrors r.kernel p f)))
+        (c x
+        (subst (λ (n : ℕ). Partly n (2 * step) h shift x (line_at ss 0 1) o₁) (sym (twice step h)) (stage h step r.some mirrors symmetric square p f)))
 
 -- the last stage, and the number that remains
-pub last_completed : (step : ℕ) {fs sample count lo : ℕ} {ts : List ℤ} → Staging 2 step fs sample count lo ts → Mirrors 2
-    → {shift : ℕ} {xs : List ℤ} {at stride : ℕ} {o ss o₁ o' : List ℤ} → Halved fs 1 step shift ts xs at stride o ss o₁
-    → o' ≡ stores o₁ 1 (place 0 1) (rounded shift 1 ts 0 1 fs 1 ss 0 1) → Completes 2 step shift xs at stride o o'
-last_completed step r mirrors f e x p =
+pub last_completed : (step : ℕ) {count lo : ℕ} {ts : List ℤ} → Staging 2 step count lo ts
+    → {shift : ℕ} {z : ℕ → ℤ} {o ss o₁ o' : List ℤ} → Halved 1 step shift ts z o ss o₁
+    → o' ≡ stores o₁ 1 itself (rounded shift 1 ts 0 (line_at ss 0 1)) → Completes 2 step shift z o o'
+last_completed step r f e x p =
     let s = r.some in
-    finish (2 * step) (omega arith) r.kernel (stage (2 * step) 1 step refl r.some mirrors r.kernel p f) e
+    let square = r.squares 0 (lit≤ tt) in
+    finish (2 * step) (omega arith) square (stage 1 step r.some (mirror 0 (lit< tt)) (symmetry 0 (lit< tt)) square p f) e
 
 -- all stages of a side
-pub whole_asked : (n : ℕ) {fs sample count lo : ℕ} {ts : List ℤ} → n ≤ 32 → IsDct n fs ts → sample ≡ 1 → count ≡ n → n ≤ lo
-    → Staging n 1 fs sample count lo ts
-whole_asked n {fs} {sample} {count} {lo} {ts} small kernel side_by_side whole room =
+pub whole_asked : (n : ℕ) {count lo : ℕ} {ts : List ℤ} → n ≤ 32 → OddSquares n ts → count ≡ n → n ≤ lo → Staging n 1 count lo ts
+whole_asked n {count} {lo} small squares whole room =
     record {
       some = omega arith;
       small = omega (arith, mul-one n);
-      kernel = subst (λ (m : ℕ). IsDct m fs ts) (sym (mul-one n)) kernel;
-      side_by_side = side_by_side;
+      squares = squares;
       whole = whole;
       room = omega (arith, mul-one n);
     }
 
-pub whole_completed : (n shift : ℕ) {xs : List ℤ} {at stride : ℕ} (o : List ℤ) {o' : List ℤ} → n ≤ length o → Completes n 1 shift xs at stride o o'
-    → Finished n shift (line_at xs at stride) o'
-whole_completed n shift {xs} {at} {stride} o {o'} long c =
-    subst (λ (m : ℕ). Finished m shift (line_at xs at stride) o') (mul-one n)
-    (c (line_at xs at stride) (subst (λ (m : ℕ). Partly m 1 n shift (line_at xs at stride) xs at stride o) (sym (mul-one n)) (begin n shift xs at stride o long)))
+pub whole_completed : (n shift : ℕ) {z : ℕ → ℤ} (o : List ℤ) {o' : List ℤ} → n ≤ length o → Completes n 1 shift z o o'
+    → Finished n shift z o'
+whole_completed n shift {z} o {o'} long c =
+    subst (λ (m : ℕ). Finished m shift z o') (mul-one n)
+    (c z (subst (λ (m : ℕ). Partly m 1 n shift z z o) (sym (mul-one n)) (begin n shift z o long)))
+
+-- the frequencies of a stage, from where they were summed side by side to where they belong
+pub spread_out : (h : ℕ) (q : ℕ → ℕ) (g : ℕ → ℤ) (zeros o : List ℤ) {y o' : List ℤ} → h ≤ length zeros → y ≡ stores zeros h itself g
+    → o' ≡ stores o (length (take h y)) q (number (take h y)) → o' ≡ stores o h q g
+spread_out h q g zeros o {y} room ey e =
+    let long : h ≤ length y = omega (arith, ap length ey, length_stores zeros h itself g) in
+    e ∙ ap (λ (n : ℕ). stores o n q (number (take h y))) (length-take-le h y long)
+    ∙ stores_ext o h q (number (take h y)) g
+    (λ r b. get_or-take h y r (pos 0) b ∙ ap (λ (l : List ℤ). get_or l r (pos 0)) ey ∙ stores_front zeros h g r (pos 0) b room)
 
 -- the numbers of a line at the front of a longer list
 pub finished_front : {n shift : ℕ} {x : ℕ → ℤ} {o : List ℤ} → Finished n shift x o → Finished n shift x (take n o)

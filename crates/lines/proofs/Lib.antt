@@ -1,9 +1,8 @@
 pub mod Arm
 pub mod Chain
 pub mod From
-pub mod Line
 pub mod Loop
-pub mod Reach
-pub mod Adst
+pub mod PassLine
+pub mod Squares
 pub mod Stage
 pub mod Sum

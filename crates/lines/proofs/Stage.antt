@@ -1,29 +1,29 @@
 -- The DCT by folds, generally over the side: each stage folds what is left of the line to half its length and settles the odd
 -- frequencies among those that are left, until one number remains. A side's proof is a chain of `stage`, closed by `finish`. Assumes nothing.
-use mathlib.Core.Path.{◌≡◌, sym, ap, ap₂, ◌∙◌, subst}
+use mathlib.Core.Path.{◌≡◌, refl, sym, ap, ap₂, ◌∙◌, subst}
 use mathlib.Core.Logic.{⊎_elim}
 use mathlib.Core.List.{List}
 use Prim.Native.Nat.{ℕ, zero, suc, ◌+◌, ◌-◌, ◌*◌, ◌^◌, ◌≤◌, ◌<◌}
-use native.Mathlib.Nat.{mul_comm, mul-one, one-mul, zero-mul, add-mul, mul-le-mul_left, mul-le-mul_right, eq-or-lt_of_le}
+use native.Mathlib.Nat.{mul_comm, mul-one, one-mul, zero-mul, add-mul, mul-le-mul_right, eq-or-lt_of_le}
 use native.Mathlib.Omega.{arith}
-use lib.Arith.{digits_lt}
 use lib.IntN.{ℤ, pos, ◌+ℤ◌, ◌-ℤ◌, ◌*ℤ◌}
 use lib.ListN.{length, get_or}
 use Rattle.laws.specs.Sum.{sum_to}
 use Rattle.laws.specs.Store.{stores}
 use Rattle.laws.proofs.Sum.{sum_same, sum_cong, even_fold, odd_fold}
-use Rattle.laws.proofs.Store.{stores_in, stores_out, length_stores}
+use Rattle.laws.proofs.Store.{stores_front, stores_in, stores_out, length_stores}
 use Rattle.laws.proofs.Place.{place_same, split, twice}
 use Rattle.laws.proofs.Congruence.{Cong, cong_refl, cong_trans, cong_eq, cong_add, cong_sub, cong_mul}
 use Rattle.laws.proofs.Wrap.{wrap32_is}
 use Rattle.fixed.specs.Fixed.{round_shift}
 use Rattle.fixed.proofs.Round.{round_shift_cong}
-use Rattle.kernels.specs.Dct.{dct}
+use Rattle.kernels.specs.Dct.{dct, dct32}
+use Rattle.kernels.specs.Mirror.{Symmetric}
 use Rattle.kernels.proofs.Dct.{dct_scale}
 use Rattle.kernels.proofs.Mirror.{Mirrors, even_kept, odd_negated}
 use Rattle.lines.specs.Stage.{dct_sum, Folded, Settled, Partly, Finished}
-use Rattle.lines.specs.Table.{IsDct}
-use Rattle.lines.specs.Line.{line_at, row_sum, place, rounded, Butterfly, Halved}
+use Rattle.lines.specs.Table.{OddSquare, square_at}
+use Rattle.lines.specs.Line.{line_at, dot, itself, place, rounded, Butterfly, Halved}
 
 -- ---- one fold
 
@@ -50,8 +50,8 @@ module _ (n h s : ℕ) (x : ℕ → ℤ) (mirrors : Mirrors (2 * h)) where
       odd_fold h (dct (2 * h) (2 * g + 1)) y
       (λ k l. mirrors (2 * g + 1) k (omega arith) (omega arith) ∙ odd_negated g (dct (2 * h) (2 * g + 1) k))
 
-  module _ (xs : List ℤ) (at stride : ℕ) (ss ds : List ℤ) (f : Folded n s (2 * h) x xs at stride) (b : Butterfly h xs at stride ss ds) where
-    folded_next : Folded n (2 * s) h x ss 0 1
+  module _ (z : ℕ → ℤ) (ss ds : List ℤ) (f : Folded n s (2 * h) x z) (b : Butterfly h z ss ds) where
+    folded_next : Folded n (2 * s) h x (line_at ss 0 1)
     folded_next =
         record {
           y = λ k. f.y k +ℤ f.y (2 * h - 1 - k);
@@ -62,11 +62,11 @@ module _ (n h s : ℕ) (x : ℕ → ℤ) (mirrors : Mirrors (2 * h)) where
               ap (λ (i : ℕ). dct_sum n i x) (twice s g) ∙ f.rows (2 * g) (omega arith) ∙ even_row f.y g l;
         }
 
-    -- what `odds` computes
-    odd_is : (shift fs : ℕ) (ts : List ℤ) → IsDct n fs ts → n ≡ 2 * h * s → 0 < s → (q : ℕ) → q < h
-        → rounded shift h ts s (2 * s) fs 1 ds 0 1 q ≡ round_shift shift (dct_sum n (place s (2 * s) q) x)
-    unfolding row_sum
-    odd_is shift fs ts t e some q l =
+    -- what `square_sums` computes
+    odd_is : (shift : ℕ) (ts : List ℤ) → OddSquare h ts → Symmetric h → (q : ℕ) → q < h
+        → rounded shift h ts (square_at h) (line_at ds 0 1) q ≡ round_shift shift (dct_sum n (place s (2 * s) q) x)
+    unfolding dot Symmetric
+    odd_is shift ts t symmetric q l =
         round_shift_cong shift
         (cong_trans
         (sum_cong h _ (λ k. dct (2 * h) (2 * q + 1) k *ℤ (f.y k -ℤ f.y (2 * h - 1 - k)))
@@ -76,15 +76,10 @@ module _ (n h s : ℕ) (x : ℕ → ℤ) (mirrors : Mirrors (2 * h)) where
         here : place s (2 * s) q ≡ (2 * q + 1) * s
         here = odd_place s q
 
-        below : place s (2 * s) q < n
-        below = let d : (2 * q + 1) * s + 0 < 2 * h * s = digits_lt (omega arith) some in omega (arith, here)
-
-        factor : (k : ℕ) → k < h → get_or ts (place s (2 * s) q * fs + k * 1) (pos 0) ≡ dct (2 * h) (2 * q + 1) k
+        factor : (k : ℕ) → k < h → line_at ts (square_at h + q) h k ≡ dct (2 * h) (2 * q + 1) k
         factor k i =
-            let d : k * s + 0 < 2 * h * s = digits_lt (omega arith) some in
-            let m : k * 1 ≤ k * s = mul-le-mul_left k some in
-            ap (λ (j : ℕ). get_or ts (place s (2 * s) q * fs + j) (pos 0)) (mul-one k) ∙ t.entry (place s (2 * s) q) k below (omega arith)
-            ∙ ap₂ (λ (a c : ℕ). dct a c k) e here ∙ dct_scale (2 * h) s (2 * q + 1) k some
+            let p : k * h + (square_at h + q) ≡ square_at h + (k * h + q) = omega arith in
+            ap (λ (j : ℕ). get_or ts j (pos 0)) p ∙ t.entry k q i l ∙ symmetric k q i l
 
         difference : (k : ℕ) → k < h → Cong (2 ^ 32) (line_at ds 0 1 k) (f.y k -ℤ f.y (2 * h - 1 - k))
         difference k i =
@@ -132,55 +127,60 @@ module _ (n h s shift : ℕ) (x : ℕ → ℤ) (e : n ≡ 2 * h * s) (some : 0 <
           (eq-or-lt_of_le m))
           (split r s)
 
-pub begin : (n shift : ℕ) (xs : List ℤ) (at stride : ℕ) (o : List ℤ) → n ≤ length o → Partly n 1 n shift (line_at xs at stride) xs at stride o
-begin n shift xs at stride o long =
+pub begin : (n shift : ℕ) (z : ℕ → ℤ) (o : List ℤ) → n ≤ length o → Partly n 1 n shift z z o
+begin n shift z o long =
     record {
       left = record {
-        y = line_at xs at stride;
-        held = λ k l. cong_refl (2 ^ 32) (line_at xs at stride k);
-        rows = λ g l. ap (λ (i : ℕ). dct_sum n i (line_at xs at stride)) (mul-one g);
+        y = z;
+        held = λ k l. cong_refl (2 ^ 32) (z k);
+        rows = λ g l. ap (λ (i : ℕ). dct_sum n i z) (mul-one g);
       };
       settled = record { at = λ q r b c d. absurd (omega arith) };
       long = long;
     }
 
-pub stage : (n h s : ℕ) {shift fs : ℕ} {x : ℕ → ℤ} {xs : List ℤ} {at stride : ℕ} {o ss o' ts : List ℤ} → n ≡ 2 * h * s → 0 < s
-    → Mirrors (2 * h) → IsDct n fs ts → Partly n s (2 * h) shift x xs at stride o
-    → Halved fs h s shift ts xs at stride o ss o'
-    → Partly n (2 * s) h shift x ss 0 1 o'
-stage n h s {shift} {fs} {x} {xs} {at} {stride} {o} {ss} {o'} {ts} e some mirrors t p f =
+pub stage : (h s : ℕ) {shift : ℕ} {x z : ℕ → ℤ} {o ss o' ts : List ℤ} → 0 < s
+    → Mirrors (2 * h) → Symmetric h → OddSquare h ts → Partly (2 * h * s) s (2 * h) shift x z o
+    → Halved h s shift ts z o ss o'
+    → Partly (2 * h * s) (2 * s) h shift x (line_at ss 0 1) o'
+stage h s {shift} {x} {z} {o} {ss} {o'} {ts} some mirrors symmetric t p f =
+    let n = 2 * h * s in
     let ds = f.ds in
     let b = f.butterfly in
     let u = f.odd in
     record {
-      left = folded_next n h s x mirrors xs at stride ss ds p.left b;
+      left = folded_next n h s x mirrors z ss ds p.left b;
       settled = subst (Settled n (2 * s) shift x) (sym u)
-          (settled_next n h s shift x e some o (rounded shift h ts s (2 * s) fs 1 ds 0 1) p.long p.settled
-          (odd_is n h s x mirrors xs at stride ss ds p.left b shift fs ts t e some));
-      long = omega (arith, p.long, ap length u, length_stores o h (place s (2 * s)) (rounded shift h ts s (2 * s) fs 1 ds 0 1));
+          (settled_next n h s shift x refl some o (rounded shift h ts (square_at h) (line_at ds 0 1)) p.long p.settled
+          (odd_is n h s x mirrors z ss ds p.left b shift ts t symmetric));
+      long = omega (arith, p.long, ap length u, length_stores o h (place s (2 * s)) (rounded shift h ts (square_at h) (line_at ds 0 1)));
     }
 
-zeroth : (n shift fs : ℕ) {x : ℕ → ℤ} {xs : List ℤ} {at stride : ℕ} {ts : List ℤ} → 0 < n → IsDct n fs ts
-    → Folded n n 1 x xs at stride → rounded shift 1 ts 0 1 fs 1 xs at stride 0 ≡ round_shift shift (dct_sum n 0 x)
-unfolding row_sum dct_sum
-zeroth n shift fs {x} {xs} {at} {stride} {ts} some t f =
+-- 64, which the square of 1 has of frequency 1, is frequency 0's number too
+only : dct 2 1 0 ≡ dct 1 0 0
+unfolding dct dct32
+only = refl
+
+zeroth : (n shift : ℕ) {x z : ℕ → ℤ} {ts : List ℤ} → OddSquare 1 ts
+    → Folded n n 1 x z → rounded shift 1 ts 0 z 0 ≡ round_shift shift (dct_sum n 0 x)
+unfolding dot dct_sum
+zeroth n shift {x} {z} {ts} t f =
     round_shift_cong shift
     (cong_trans (sum_cong 1 _ (λ k. dct 1 0 k *ℤ f.y k) (λ k l. cong_mul (cong_eq (factor k l)) (f.held k l)))
     (cong_eq (sym (whole (f.rows 0 (omega arith))))))
   where
-    factor : (k : ℕ) → k < 1 → get_or ts (place 0 1 0 * fs + k * 1) (pos 0) ≡ dct 1 0 k
-    factor k l =
-        ap (λ (j : ℕ). get_or ts (0 * fs + j) (pos 0)) (mul-one k) ∙ t.entry 0 k some (omega arith)
-        ∙ ap₂ (λ (a c : ℕ). dct a c k) (sym (one-mul n)) (sym (zero-mul n)) ∙ dct_scale 1 n 0 k some
+    factor : (k : ℕ) → k < 1 → line_at ts (0 + 0) 1 k ≡ dct 1 0 k
+    factor zero l = t.entry 0 0 l l ∙ only
+    factor (suc k) l = absurd (omega arith)
 
     whole : dct_sum n (0 * n) x ≡ dct_sum 1 0 f.y → dct_sum n 0 x ≡ sum_to 1 (λ k. dct 1 0 k *ℤ f.y k)
     whole e = ap (λ (i : ℕ). dct_sum n i x) (sym (zero-mul n)) ∙ e
 
 -- the number that remains is frequency 0's
-pub finish : (n : ℕ) {shift fs : ℕ} {x : ℕ → ℤ} {xs : List ℤ} {at stride : ℕ} {o o' ts : List ℤ} → 0 < n → IsDct n fs ts
-    → Partly n n 1 shift x xs at stride o → o' ≡ stores o 1 (place 0 1) (rounded shift 1 ts 0 1 fs 1 xs at stride)
+pub finish : (n : ℕ) {shift : ℕ} {x z : ℕ → ℤ} {o o' ts : List ℤ} → 0 < n → OddSquare 1 ts
+    → Partly n n 1 shift x z o → o' ≡ stores o 1 itself (rounded shift 1 ts 0 z)
     → Finished n shift x o'
-finish n {shift} {fs} {x} {xs} {at} {stride} {o} {o'} {ts} some t p u = record { at = settle }
+finish n {shift} {x} {z} {o} {o'} {ts} some t p u = record { at = settle }
   where
     here : (f : ℕ) → 0 * n + suc f ≡ suc f
     here f = omega (arith, zero-mul n)
@@ -188,9 +188,9 @@ finish n {shift} {fs} {x} {xs} {at} {stride} {o} {o'} {ts} some t p u = record {
     settle : (f : ℕ) → f < n → get_or o' f (pos 0) ≡ round_shift shift (dct_sum n f x)
     settle zero l =
         ap (λ (a : List ℤ). get_or a 0 (pos 0)) u
-        ∙ stores_in o 1 (place 0 1) (rounded shift 1 ts 0 1 fs 1 xs at stride) 0 (pos 0) (omega arith) (omega (arith, p.long)) (λ i b e. omega arith)
-        ∙ zeroth n shift fs some t p.left
+        ∙ stores_front o 1 (rounded shift 1 ts 0 z) 0 (pos 0) (omega arith) (omega (arith, p.long))
+        ∙ zeroth n shift t p.left
     settle (suc f) l =
         ap (λ (a : List ℤ). get_or a (suc f) (pos 0)) u
-        ∙ stores_out o 1 (place 0 1) (rounded shift 1 ts 0 1 fs 1 xs at stride) (suc f) (pos 0) (λ k b e. omega arith)
+        ∙ stores_out o 1 itself (rounded shift 1 ts 0 z) (suc f) (pos 0) (λ k b e. omega arith)
         ∙ subst (λ (i : ℕ). get_or o i (pos 0) ≡ round_shift shift (dct_sum n i x)) (here f) (p.settled.at 0 (suc f) (omega arith) l (omega (arith, zero-mul n)))

@@ -4,6 +4,7 @@ use Rattle.laws.specs.Integer.{wrap32}
 use Rattle.laws.specs.Store.{stores}
 use Rattle.laws.specs.Sum.{sum_to}
 use Rattle.fixed.specs.Fixed.{round_shift}
+use Rattle.lines.specs.Table.{OddSquare, square_at}
 
 -- number k of a line that begins at at and has a number every stride places
 abbrev pub line_at : List ℤ → ℕ → ℕ → ℕ → ℤ
@@ -13,53 +14,51 @@ line_at xs at stride k = get_or xs (k * stride + at) (pos 0)
 pub record EndsIn (n stride at l : ℕ) : Type 0 where
   pub last : n * stride + at < stride + l
 
--- n products of a table's numbers, from row on and apart places apart, with a line's
-unfoldable pub row_sum : ℕ → List ℤ → ℕ → ℕ → List ℤ → ℕ → ℕ → ℤ
-row_sum n ts row apart xs at stride = sum_to n (λ k. get_or ts (row + k * apart) (pos 0) *ℤ line_at xs at stride k)
+-- the sum of the products of n numbers with n others
+unfoldable pub dot : ℕ → (ℕ → ℤ) → (ℕ → ℤ) → ℤ
+dot n a b = sum_to n (λ k. a k *ℤ b k)
 
--- the frequencies first, first + apart, ..
-abbrev pub place : ℕ → ℕ → ℕ → ℕ
-place first apart r = first + r * apart
-
--- the r-th of them: its row of the table times the line, rounded
-abbrev pub rounded : ℕ → ℕ → List ℤ → ℕ → ℕ → ℕ → ℕ → List ℤ → ℕ → ℕ → ℕ → ℤ
-rounded shift taps ts first apart fs ks xs at stride r =
-    round_shift shift (row_sum taps ts (place first apart r * fs) ks xs at stride)
-
--- the k-th from the front with the k-th from the back, of 2h
-abbrev pub sum_of : List ℤ → ℕ → ℕ → ℕ → ℕ → ℤ
-sum_of xs at stride h k = wrap32 (line_at xs at stride k +ℤ line_at xs at stride (2 * h - 1 - k))
-
-abbrev pub diff_of : List ℤ → ℕ → ℕ → ℕ → ℕ → ℤ
-diff_of xs at stride h k = wrap32 (line_at xs at stride k -ℤ line_at xs at stride (2 * h - 1 - k))
-
--- what `fold` leaves: h sums in ss and h differences in ds
-pub record Butterfly (h : ℕ) (xs : List ℤ) (at stride : ℕ) (ss ds : List ℤ) : Type 0 where
-  pub sums : (k : ℕ) → k < h → get_or ss k (pos 0) ≡ sum_of xs at stride h k
-  pub diffs : (k : ℕ) → k < h → get_or ds k (pos 0) ≡ diff_of xs at stride h k
-
--- what `halve` leaves: h sums in ss, and in o' the odd frequencies, from the differences ds
-pub record Halved (fs h step shift : ℕ) (ts xs : List ℤ) (at stride : ℕ) (o ss o' : List ℤ) : Type 0 where
-  pub ds : List ℤ
-  pub butterfly : Butterfly h xs at stride ss ds
-  pub odd : o' ≡ stores o h (place step (2 * step)) (rounded shift h ts step (2 * step) fs 1 ds 0 1)
-
--- the places from at on, and the numbers of a list
+-- the places from at on, those of a list from its front, and its numbers
 abbrev pub from : ℕ → ℕ → ℕ
 from at f = at + f
+
+abbrev pub itself : ℕ → ℕ
+itself f = f
 
 abbrev pub number : List ℤ → ℕ → ℤ
 number os f = get_or os f (pos 0)
 
--- what `frequencies` asks: there are taps, and each place lies within its buffer, of the lengths lt and lo
-pub record InReach (count first apart taps fs ks lt lo : ℕ) : Type 0 where
-  pub some : 0 < taps
-  pub table : (r k : ℕ) → r < count → k < taps → place first apart r * fs + k * ks < lt
-  pub stored : (r : ℕ) → r < count → place first apart r < lo
+-- the places first, first + apart, ..
+abbrev pub place : ℕ → ℕ → ℕ → ℕ
+place first apart r = first + r * apart
 
--- what `halve` asks: a line of twice as many numbers as its h sums, and each place as above
-pub record Halving (fs h step lt count lo : ℕ) : Type 0 where
+-- frequency r of a square of n × n numbers that stands in ts from square on: its numbers, one of each sample, times the line z, rounded
+abbrev pub rounded : ℕ → ℕ → List ℤ → ℕ → (ℕ → ℤ) → ℕ → ℤ
+rounded shift n ts square z r = round_shift shift (dot n (line_at ts (square + r) n) z)
+
+-- the k-th of a line z from the front with the k-th from the back, of 2h
+abbrev pub sum_of : (ℕ → ℤ) → ℕ → ℕ → ℤ
+sum_of z h k = wrap32 (z k +ℤ z (2 * h - 1 - k))
+
+abbrev pub diff_of : (ℕ → ℤ) → ℕ → ℕ → ℤ
+diff_of z h k = wrap32 (z k -ℤ z (2 * h - 1 - k))
+
+-- what `fold` leaves of a line z: h sums in ss and h differences in ds
+pub record Butterfly (h : ℕ) (z : ℕ → ℤ) (ss ds : List ℤ) : Type 0 where
+  pub sums : (k : ℕ) → k < h → get_or ss k (pos 0) ≡ sum_of z h k
+  pub diffs : (k : ℕ) → k < h → get_or ds k (pos 0) ≡ diff_of z h k
+
+-- what `halve` leaves of a line z: h sums in ss, and in o' the odd frequencies, from the differences ds
+pub record Halved (h step shift : ℕ) (ts : List ℤ) (z : ℕ → ℤ) (o ss o' : List ℤ) : Type 0 where
+  pub ds : List ℤ
+  pub butterfly : Butterfly h z ss ds
+  pub odd : o' ≡ stores o h (place step (2 * step)) (rounded shift h ts (square_at h) (line_at ds 0 1))
+
+-- what `halve` asks: a line of twice as many numbers as its h sums, the odd square of h, and room in o, of length lo, for the odd frequencies
+pub record Halving (h step count lo : ℕ) (ts : List ℤ) : Type 0 where
+  pub some : 0 < h
   pub few : h ≤ 16
   pub twice : count ≡ 2 * h
   pub spaced : step ≤ 16
-  pub reach : InReach h step (2 * step) h fs 1 lt lo
+  pub square : OddSquare h ts
+  pub stored : (r : ℕ) → r < h → place step (2 * step) r < lo

@@ -1,32 +1,34 @@
-// The ADST of a line, by dense sums.
-ghost use Rattle.std.specs.Prelude.{length};
-ghost use Rattle.lines.specs.Table.{IsAdst};
+// A transform of a line by dense sums: the ADST.
+ghost use Rattle.std.specs.Prelude.{◌≡◌};
+ghost use Rattle.kernels.specs.Kernel.{by_sample};
 
 use super::spaced::Source;
-use super::table::{Table, frequencies};
+use super::square::{Setup, Square, sums};
 use super::transform::Transform;
 
-// The ADST of side N, whose table has frequency f, sample k at place f × F + k × K.
+// The transform of a kind at side N by all the numbers of its kernel.
 #[derive(Drop)]
-pub struct Dense<'a, const N: usize, const F: usize, const K: usize> {
-    pub numbers: &'a [i8],
-    ghost reads: { IsAdst N F K numbers.now },
+pub struct Dense<'a, const KIND: usize, const N: usize> {
+    pub setup: Setup<'a>,
+    ghost kernel: { setup.numbers.now ≡ by_sample KIND N },
 }
 
-impl<'a, const N: usize, const F: usize, const K: usize> Transform for Dense<'a, N, F, K> {
-    ghost kind = { λ _. 1 };
+impl<'a, const KIND: usize, const N: usize> Transform for Dense<'a, KIND, N> {
+    ghost kind = { λ _. KIND };
 
     ghost side = { λ _. N };
 
+    ghost shift = { λ t. t.setup.rounding.shift.bits };
+
     #[inline(always)]
     fn line(&self, source: &Source<'_>, j: usize, dst: &mut [i32], to: usize) {
-        let mut o = [0i32; N];
-        let table = Table {
-            numbers: self.numbers,
-            frequency: F,
-            sample: K,
+        let square = Square {
+            numbers: self.setup.numbers,
+            at: 0,
+            side: N,
         };
-        frequencies(N, 0, 1, &table, &source.line(j, N), &mut o, source.shift);
+        let mut o = [0i32; N];
+        sums(&square, &source.line(j, N), self.setup.rounding, &mut o);
         dst[to * N..to * N + N].copy_from_slice(&o);
     }
 }

@@ -1,14 +1,16 @@
-// One line of a pass: the pieces that every side is made of, all of them with sums that wrap.
+// One line of a pass: the pieces that every side is made of, with sums that wrap; the widening of a kernel, and the loops over lines.
 #![tactic(auto)]
 
 mod dense;
 mod fold;
 mod spaced;
-mod table;
+mod square;
 mod transform;
+mod wide;
 
 pub use dense::Dense;
 pub use fold::{halve, zeroth};
-pub use spaced::{Line, Source, Spaced, whole};
-pub use table::Table;
-pub use transform::{Transform, by_fours, each_line};
+pub use spaced::{Line, Source, whole};
+pub use square::Setup;
+pub use transform::{Transform, each_line, run_lines};
+pub use wide::{widen_odd_squares, widen_square};

@@ -6,22 +6,20 @@ use fixed::Shift;
 
 // Some numbers of a list: the first at a place, then one every stride places, count of them.
 #[derive(Drop)]
-pub struct Spaced<'a, T> {
-    pub numbers: &'a [T],
+pub struct Line<'a> {
+    pub numbers: &'a [i32],
     pub at: usize,
     pub stride: usize,
     pub count: usize,
     ghost inside: { EndsIn count stride at (length numbers.now) },
 }
 
-pub type Line<'a> = Spaced<'a, i32>;
-
 // A whole list as a line.
 #[inline(always)]
 pub fn whole(numbers: &[i32]) -> Line<'_>
     ensures { (result.numbers.now ≡ numbers.now) × (result.at ≡ 0) × (result.stride ≡ 1) × (result.count ≡ length numbers.now) }
 {
-    Spaced {
+    Line {
         numbers,
         at: 0,
         stride: 1,
@@ -44,7 +42,7 @@ impl<'a> Source<'a> {
         requires { EndsIn n self.now.lines j (length self.now.numbers.now) }
         ensures { (result.numbers.now ≡ self.now.numbers.now) × (result.at ≡ j) × (result.stride ≡ self.now.lines) × (result.count ≡ n) }
     {
-        Spaced {
+        Line {
             numbers: self.numbers,
             at: j,
             stride: self.lines,

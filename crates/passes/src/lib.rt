@@ -16,7 +16,7 @@ ghost use Rattle.passes.specs.Admitted.{admitted};
 use answer::{Outcome, Refusal};
 use fixed::Shift;
 use kernels::Kind;
-use lines::{Source, each_line};
+use lines::{Setup, Source, each_line, widen_odd_squares};
 use sizes::Size;
 use stages::Plain;
 
@@ -80,7 +80,18 @@ fn run_plain(side: usize, kind: Kind, source: &Source<'_>, lines: usize, dst: &m
     ensures { dst.new ≡ pass_lines (kind_number kind) side source.now.shift.bits source.now.lines source.now.numbers.now 0 lines dst.old }
 {
     match kind {
-        Kind::Dct => each_line(&Plain { n: side }, source, 0, lines, dst),
+        Kind::Dct => {
+            let mut wide = [0i32; 341];
+            widen_odd_squares(sizes::log2(side), &mut wide);
+            let plain = Plain {
+                n: side,
+                setup: Setup {
+                    numbers: &wide,
+                    rounding: source.shift.rounding(),
+                },
+            };
+            each_line(&plain, source, 0, lines, dst)
+        }
         Kind::Adst => lanes::run(side, kind, source, 0, lines, dst),
     }
 }

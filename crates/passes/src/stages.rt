@@ -2,51 +2,50 @@
 // each stage.
 ghost use Rattle.std.specs.Prelude.{◌≡◌, true, length};
 ghost use Rattle.sizes.specs.Size.{is_side};
+ghost use Rattle.lines.specs.Line.{line_at};
 ghost use Rattle.lines.specs.Stage.{Staging, Completes};
+ghost use Rattle.lines.specs.Table.{OddSquares};
 ghost use Rattle.passes.specs.Power.{Power};
 
-use fixed::Shift;
-use lines::{Line, Source, Table, Transform, halve, whole, zeroth};
+use lines::{Line, Setup, Source, Transform, halve, whole, zeroth};
 
 // The DCT of side n, whatever side that is.
-#[derive(Clone, Copy)]
-pub(crate) struct Plain {
+#[derive(Drop)]
+pub(crate) struct Plain<'a> {
     pub(crate) n: usize,
+    pub(crate) setup: Setup<'a>,
     ghost side: { is_side n ≡ true },
+    ghost squares: { OddSquares n setup.numbers.now },
 }
 
-impl Transform for Plain {
+impl<'a> Transform for Plain<'a> {
     ghost kind = { λ _. 0 };
 
     ghost side = { λ p. p.n };
 
-    // The 1,024 numbers serve every side: row 32f / n begins at place f × (1024 / n).
+    ghost shift = { λ p. p.setup.rounding.shift.bits };
+
     fn line(&self, source: &Source<'_>, j: usize, dst: &mut [i32], to: usize) {
         let n = self.n;
-        let table = Table {
-            numbers: kernels::dct32(),
-            frequency: 1024 / n,
-            sample: 1,
-        };
         let mut o = [0i32; 32];
-        stages(&table, 1, &source.line(j, n), &mut o, source.shift);
+        stages(&self.setup, 1, &source.line(j, n), &mut o);
         dst[to * n..to * n + n].copy_from_slice(&o[..n]);
     }
 }
 
 // The frequencies of a line, those of every step-th of the side.
-fn stages(table: &Table<'_>, step: usize, line: &Line<'_>, o: &mut [i32], shift: Shift)
+fn stages(setup: &Setup<'_>, step: usize, line: &Line<'_>, o: &mut [i32])
     requires power { Power line.now.count }
-    requires staging { Staging line.now.count step table.now.frequency table.now.sample line.now.count (length o.old) table.now.numbers.now }
-    ensures { Completes line.now.count step shift.bits line.now.numbers.now line.now.at line.now.stride o.old o.new }
+    requires staging { Staging line.now.count step line.now.count (length o.old) setup.now.numbers.now }
+    ensures { Completes line.now.count step setup.now.rounding.shift.bits (line_at line.now.numbers.now line.now.at line.now.stride) o.old o.new }
 {
     let h = line.count / 2;
     let mut sums = [0i32; 16];
     let s = &mut sums[..h];
-    halve(table, step, line, s, o, shift);
+    halve(setup, step, line, s, o);
     if h == 1 {
-        zeroth(table, s, o, shift);
+        zeroth(setup, s, o);
     } else {
-        stages(table, 2 * step, &whole(s), o, shift);
+        stages(setup, 2 * step, &whole(s), o);
     }
 }

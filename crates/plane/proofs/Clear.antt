@@ -15,7 +15,7 @@ use Rattle.laws.specs.Table.{every}
 use Rattle.laws.proofs.Bool.{same_test}
 use Rattle.laws.proofs.Every.{every_all, every_each, every_not}
 use Rattle.laws.proofs.Place.{split}
-use Rattle.laws.proofs.Store.{Stored, stored_none, stored_turn, stores_in, stores_out}
+use Rattle.laws.proofs.Store.{Stored, stored_none, stored_turn, stores_front, stores_out}
 use Rattle.plane.specs.Bounds.{bounds_of, bounds_in, meet, clear_at, clear_all, InLargest}
 use Rattle.plane.specs.Places.{overlap}
 use Rattle.plane.specs.Plane.{no_tile, tile_at, is_open, sides_ok, tile_ok, clash, apart}
@@ -82,7 +82,7 @@ no_tile_past p i l = get_or_past p.tiles i no_tile l
 
 module _ {d : List ℕ} {g : ℕ → ℕ} (s : Stored d zeros 16 (λ i. i) g) (i : ℕ) where
   at_tile : i < 16 → get_or d i 0 ≡ g i
-  at_tile l = ap (λ (x : List ℕ). get_or x i 0) s.is ∙ stores_in zeros 16 (λ i. i) g i 0 l (omega arith) (λ j m e. e)
+  at_tile l = ap (λ (x : List ℕ). get_or x i 0) s.is ∙ stores_front zeros 16 g i 0 l (omega arith)
 
   past_tiles : 16 ≤ i → i < 32 → get_or d i 0 ≡ 0
   past_tiles l m =

@@ -3,8 +3,8 @@
 #![tactic(auto)]
 
 ghost use Rattle.std.specs.Prelude.{◌≡◌, length};
-ghost use Rattle.kernels.specs.Adst.{adst16, adst4, adst8};
-ghost use Rattle.kernels.specs.Dct.{dct32, dct_rows};
+ghost use Rattle.kernels.specs.Dct.{dct32};
+ghost use Rattle.kernels.specs.Kernel.{by_sample};
 ghost use Rattle.answer.specs.Answer.{signed_of, told};
 ghost use Rattle.passes.specs.Call.{pass_answer, pass_after};
 ghost use Rattle.probe.specs.Lanes.{lanes_answer, lanes_after};
@@ -21,44 +21,24 @@ pub extern "C" fn probe_dct32(table: &mut [i8; 1024])
     *table = *kernels::dct32();
 }
 
-#[unsafe(no_mangle)]
-pub extern "C" fn probe_dct16(table: &mut [i8; 256])
-    ensures { table.new ≡ dct_rows 16 16 }
-{
-    *table = *kernels::dct16();
-}
-
-#[unsafe(no_mangle)]
-pub extern "C" fn probe_dct8(table: &mut [i8; 64])
-    ensures { table.new ≡ dct_rows 8 8 }
-{
-    *table = *kernels::dct8();
-}
-
-#[unsafe(no_mangle)]
-pub extern "C" fn probe_dct4(table: &mut [i8; 16])
-    ensures { table.new ≡ dct_rows 4 4 }
-{
-    *table = *kernels::dct4();
-}
-
+// The ADST tables are by sample: frequency f, sample k at place k × n + f.
 #[unsafe(no_mangle)]
 pub extern "C" fn probe_adst16(table: &mut [i8; 256])
-    ensures { table.new ≡ adst16 }
+    ensures { table.new ≡ by_sample 1 16 }
 {
     *table = *kernels::adst16();
 }
 
 #[unsafe(no_mangle)]
 pub extern "C" fn probe_adst8(table: &mut [i8; 64])
-    ensures { table.new ≡ adst8 }
+    ensures { table.new ≡ by_sample 1 8 }
 {
     *table = *kernels::adst8();
 }
 
 #[unsafe(no_mangle)]
 pub extern "C" fn probe_adst4(table: &mut [i8; 16])
-    ensures { table.new ≡ adst4 }
+    ensures { table.new ≡ by_sample 1 4 }
 {
     *table = *kernels::adst4();
 }

@@ -3,18 +3,19 @@ use mathlib.Core.Path.{◌≡◌, refl, sym, ap, ◌∙◌, subst}
 use mathlib.Core.Logic.{⊎_elim}
 use mathlib.Core.Bool.{Bool, true, false, not, cond, true≢false}
 use Prim.Native.Nat.{ℕ, suc, ◌+◌, ◌-◌, ◌*◌, ◌/◌, ◌%◌, ◌^◌, ◌≤◌, ◌<◌}
-use native.Mathlib.Nat.{zero-lt-suc, mul-one, one-mul, mul_assoc, add-mul, mul-le-mul, mul-le-mul_left, mul-le-mul_right, mul-add-mod_self_right, mul-div-mul_left, div-lt_iff_lt-mul, le-div_iff_mul-le, div-add-mod', mod-eq_of_lt, pow-succ', lt_of_lt_of_le, le_trans, eq-or-lt_of_le, not-le_of_lt, lt_of_not-le, le_of_suc-le-suc}
+use native.Mathlib.Nat.{zero-lt-suc, mul-one, one-mul, mul_assoc, add-mul, mul-le-mul, mul-le-mul_left, mul-le-mul_right, mul-add-mod_self_right, mul-div-mul_left, div-lt_iff_lt-mul, le-div_iff_mul-le, div-add-mod', pow-succ', lt_of_lt_of_le, le_trans, eq-or-lt_of_le, not-le_of_lt, lt_of_not-le, le_of_suc-le-suc}
 use native.Mathlib.Omega.{arith}
 use borrow.Author.Tests.{leb-false}
 use lib.Dec.{T, lit≤}
 use lib.IntN.{pos}
-use lib.Pow.{pow-add, pow_pos, pow_mono, pow-lt, shl_lt}
+use lib.Pow.{pow-add, pow_pos, pow_mono, shl_lt}
 use lib.Ieee.{Float, nan, inf, fin, binary32, lt, le, fits, is_nan, of_int, of_bits, to_bits, nan_bits}
 use lib.Ieee.Back.{whole_unique}
 use lib.Ieee.Bits.{of_bits-to_bits, of_bits-fits, nan_bits_is}
 use lib.Ieee.Exact.{HasValue}
 use lib.Ieee.Fits.{of_int-fits}
 use lib.Ieee.Scale.{finite}
+use Rattle.laws.proofs.Machine.{one_shl}
 use Rattle.quant.specs.Float.{one32, half32, has_no_sign, negative, half_up, round_of}
 use Rattle.quant.proofs.Compare.{reaches, falls_short, not_below}
 use Rattle.quant.proofs.Pattern.{sign_bit, field, digits, normal, subnormal, finite_field}
@@ -58,8 +59,7 @@ module _ (b : ℕ) (lo : 127 ≤ field b) (hi : field b ≤ 149) where
   ones_is =
       let e : 150 - field b ≡ suc j = omega arith in
       ap (λ (k : ℕ). (1 * 2 ^ k) % 4294967296) e
-      ∙ ap (λ (x : ℕ). x % 4294967296) (one-mul (2 ^ suc j))
-      ∙ mod-eq_of_lt (pow-lt {i = suc j} {j = 32} (omega arith))
+      ∙ one_shl 32 (suc j) (omega arith)
       ∙ pow-succ' 2 j
 
   up_is : up b ≡ b + h

@@ -47,6 +47,10 @@ side_bounds =
     (record { low = lit≤ tt; high = lit≤ tt; power = refl })
     (record { low = lit≤ tt; high = lit≤ tt; power = refl })
 
+-- a side is 2 to what the code gives as its logarithm
+pub side_power : (n e : ℕ) → is_side n ≡ true → e ≡ log_of n → 2 ^ e ≡ n
+side_power n e s u = ap (λ (i : ℕ). 2 ^ i) u ∙ sym (side_bounds n s).power
+
 -- a block has at most 1,024 places
 pub size_small : (w h : ℕ) → is_side w ≡ true → is_side h ≡ true → w * h ≤ 1024
 size_small w h sw sh =

@@ -3,7 +3,7 @@ use mathlib.Core.Path.{◌≡◌, refl, sym, ap, ap₂, ◌∙◌}
 use mathlib.Core.Logic.{⊎_elim}
 use mathlib.Core.Bool.{Bool, true, false, cond, not, ◌||◌, or-true}
 use Prim.Native.Nat.{ℕ, zero, suc, ◌+◌, ◌-◌, ◌*◌, ◌/◌, ◌%◌, ◌^◌, ◌<◌, ◌≤◌}
-use native.Mathlib.Nat.{pow-suc, mul-one, one-mul, div-one, lt_of_lt_of_le}
+use native.Mathlib.Nat.{pow-suc, mul-one, div-one, lt_of_lt_of_le}
 use native.Mathlib.Omega.{arith}
 use borrow.Author.Tests.{eq-eqb, eqb-true, le-leb, lt-ltb, leb-true, ltb-true, not-true}
 use lib.Dec.{leb, ltb, eqb, leb-suc-suc, leb-suc-zero, leb-zero}
@@ -13,6 +13,7 @@ use Rattle.laws.specs.Table.{every}
 use Rattle.laws.proofs.Bits.{low_bit, above_bit, bit_and_rest, or_bits, ones_odd, ones_half}
 use Rattle.laws.proofs.Bool.{both, decided, or_already, same_test}
 use Rattle.laws.proofs.Every.{every_all, every_each, every_same}
+use Rattle.laws.proofs.Machine.{one_shl}
 use Rattle.tickets.specs.Mark.{marked, mask_of, any_from, all_marked, is_among, with_lines}
 
 -- ---- a mask and its lines
@@ -102,13 +103,11 @@ marked_run (suc s) n (suc j) =
     let e : suc s + n ≡ suc (s + n) = omega arith in
     ap (λ (x : ℕ). marked x j) (shifted_half (2 ^ n - 1) s) ∙ marked_run s n j ∙ rw (e, leb-suc-suc s j, leb-suc-suc (suc j) (s + n))
 
--- the code's shifts lose nothing
-pub one_shl : (n : ℕ) → n ≤ 32 → (1 * 2 ^ n) % 18446744073709551616 ≡ 2 ^ n
-one_shl n h = shl_exact 1 n 64 (omega arith) (omega arith) ∙ one-mul (2 ^ n)
+-- ---- the code's shifts lose nothing
 
 module _ (m s n : ℕ) (room : s + n ≤ 32) (small : m < 2 ^ 32) where
   run_is : ((1 * 2 ^ n) % 18446744073709551616 - 1) * 2 ^ s % 18446744073709551616 ≡ (2 ^ n - 1) * 2 ^ s
-  run_is = rw (one_shl n (omega arith)) (shl_exact n s 64 (ones_lt n) (omega arith))
+  run_is = rw (one_shl 64 n (omega arith)) (shl_exact n s 64 (ones_lt n) (omega arith))
 
   run_lt : (2 ^ n - 1) * 2 ^ s < 2 ^ 32
   run_lt = let k : n + s ≤ 32 = omega arith in lt_of_lt_of_le (shl_lt n s (ones_lt n)) (pow_mono k)

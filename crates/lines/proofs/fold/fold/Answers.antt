@@ -9,10 +9,9 @@ use mir.Syntax.{w32}
 use mir.Val.{SFits}
 use mir.Facts.{to_z-of_z}
 use Rattle.laws.specs.Integer.{wrap32}
-use Rattle.laws.proofs.Store.{stored_none, stored_turn, stored_all, stores_in}
+use Rattle.laws.proofs.Store.{stored_none, stored_turn, stored_all, stores_front}
 use Rattle.laws.proofs.Machine.{read_at}
 use Rattle.lines.specs.Line.{line_at}
-use Rattle.lines.proofs.fold.fold.Invariants.{itself}
 use Rattle.lines.proofs.fold.fold.Goals as goal
 
 pub loop-k-init : goal.loop-k-init
@@ -34,6 +33,6 @@ pub returns : goal.returns
 returns c =
     let i = c.loop-k.invariant in
     record {
-      sums = λ k b. ap (λ l. get_or l k (pos 0)) (stored_all i.0 (omega arith)) ∙ stores_in _ _ itself _ k (pos 0) b (omega arith) (λ i b e. e);
-      diffs = λ k b. ap (λ l. get_or l k (pos 0)) (stored_all i.1 (omega arith)) ∙ stores_in _ _ itself _ k (pos 0) b (omega arith) (λ i b e. e);
+      sums = λ k b. ap (λ l. get_or l k (pos 0)) (stored_all i.0 (omega arith)) ∙ stores_front _ _ _ k (pos 0) b (omega arith);
+      diffs = λ k b. ap (λ l. get_or l k (pos 0)) (stored_all i.1 (omega arith)) ∙ stores_front _ _ _ k (pos 0) b (omega arith);
     }

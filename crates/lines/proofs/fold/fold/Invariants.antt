@@ -1,14 +1,10 @@
 -- After k turns k sums and k differences are stored.
-use Prim.Native.Nat.{ℕ}
 use lib.ListN.{length}
 use Rattle.laws.proofs.Store.{Stored}
-use Rattle.lines.specs.Line.{sum_of, diff_of}
+use Rattle.lines.specs.Line.{itself, line_at, sum_of, diff_of}
 use Rattle.lines.proofs.fold.fold.Given as goal
-
-abbrev pub itself : ℕ → ℕ
-itself k = k
 
 abbrev pub invariant-loop-k : goal.invariant-loop-k
 invariant-loop-k l =
-    Stored l.s l.initial.s l.k itself (sum_of l.line.numbers.now l.line.at l.line.stride (length l.fn.s))
-    × Stored l.d l.initial.d l.k itself (diff_of l.line.numbers.now l.line.at l.line.stride (length l.fn.s))
+    Stored l.s l.initial.s l.k itself (sum_of (line_at l.line.numbers.now l.line.at l.line.stride) (length l.fn.s))
+    × Stored l.d l.initial.d l.k itself (diff_of (line_at l.line.numbers.now l.line.at l.line.stride) (length l.fn.s))

@@ -3,6 +3,7 @@ use mathlib.Core.Path.{◌∙◌}
 use Prim.Native.Nat.{◌<◌}
 use borrow.Author.Rules.{rules}
 use native.Mathlib.Omega.{arith}
+use lib.Pow.{pow_pos}
 use Rattle.passes.proofs.Going.{halved, sums_long, halve_asked, zeroth_asked, rest_staged, rest_completed, one_completed}
 use Rattle.passes.proofs.stages.+stages.Goals as goal
 
@@ -14,8 +15,9 @@ pub zeroth-requires : goal.zeroth-requires
 zeroth-requires t c =
     let r = c.requires in
     let m = c.args.line.now.count in
-    let z = zeroth_asked m c.args.step r.power r.staging in
-    (r.staging.side_by_side, z.0, omega (arith, c.halve.auto.s ∙ sums_long m r.power ∙ c.if-h-eq1.true), omega (arith, z.1, c.halve.auto.o))
+    let long = sums_long m r.power in
+    let z = zeroth_asked m c.args.step r.power r.staging c.if-h-eq1.true in
+    (omega (arith, c.halve.auto.s ∙ long ∙ c.if-h-eq1.true), z.0, omega (arith, z.1, c.halve.auto.o))
 
 pub stages-requires : goal.stages-requires
 stages-requires t c =
@@ -23,7 +25,7 @@ stages-requires t c =
     let m = c.args.line.now.count in
     let h = halved m r.power in
     let w = c.whole.ensures.3 ∙ c.halve.auto.s in
-    let fewer : c.whole.result.count < m = omega (arith, w, sums_long m r.power, h.some, h.twice) in (
+    let fewer : c.whole.result.count < m = omega (arith, w, sums_long m r.power, h.power, pow_pos h.d, h.twice) in (
       search rules,
       (
         rw (w ∙ sums_long m r.power) (h.rest c.if-h-eq1.false),
