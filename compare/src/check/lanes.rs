@@ -18,7 +18,7 @@ struct Case {
     dst: Vec<i32>,
 }
 
-/// Every start of 1, 4 and 8 lines at every size, at shift 0 and at another, and as many random cases as are asked for.
+/// Every start of 1, 4, 8, 16 and 32 lines at every size, at shift 0 and at another, and as many random cases as are asked for.
 pub fn compare(run: &mut Run) -> Outcome {
     let places = places();
     for (kind, side) in KERNELS {
@@ -41,7 +41,7 @@ pub fn compare(run: &mut Run) -> Outcome {
 fn places() -> Vec<(usize, usize, usize)> {
     let mut places = Vec::new();
     for lines in SIDES {
-        for count in [1, 4, 8] {
+        for count in [1, 4, 8, 16, 32] {
             places.extend((0..(lines + 1).saturating_sub(count)).map(|start| (lines, start, count)));
         }
     }

@@ -1,22 +1,16 @@
-//! Single passes: the call and the plain pass over all lines, then the lane pass.
+//! Single passes: the call over all lines, then the lane pass.
 
 use super::{Run, lanes};
 use crate::difference::{Input, Outcome, same, same_list};
 use crate::lent::Lent;
 use crate::mizdrek::{self as ours, Refusal};
 use crate::oracle::{self, KERNELS, SIDES};
-use crate::probe::passes::plain;
 use crate::random::Random;
 use crate::rules;
 use crate::samples::{filling, impulse, length, samples};
 
 /// Numbers at which sums wrap, or round the other way.
 const EDGES: [i32; 8] = [i32::MIN, i32::MAX, -1, 1, 8_388_608, -8_388_608, 1 << 30, i32::MIN + 1];
-
-type Pass = fn(usize, u32, i32, usize, &[i32], &mut [i32]) -> Result<usize, Refusal>;
-
-/// Two programs for one definition.
-const FORMS: [(&str, Pass); 2] = [("mizdrek_pass", ours::pass), ("probe_plain", plain)];
 
 struct Case {
     side: usize,
@@ -118,19 +112,16 @@ fn any(random: &mut Random) -> Case {
 
 impl Case {
     fn compare(&self, run: &mut Run) -> Outcome {
-        for (name, pass) in FORMS {
-            run.case();
-            self.compare_call(pass).map_err(|d| d.of(name, &self.inputs()))?;
-        }
-        Ok(())
+        run.case();
+        self.compare_call().map_err(|d| d.of("mizdrek_pass", &self.inputs()))
     }
 
-    fn compare_call(&self, pass: Pass) -> Outcome {
+    fn compare_call(&self) -> Outcome {
         let Case { side, kind, shift, lines, .. } = *self;
         let expected = rules::transform::pass(side, kind, shift, lines, [self.src.len(), self.dst.len()]);
         let src = Lent::new(&self.src);
         let mut dst = Lent::new(&self.dst);
-        let answer = pass(side, kind, shift, lines, src.read(), dst.write());
+        let answer = ours::pass(side, kind, shift, lines, src.read(), dst.write());
         same("the answer", expected, answer)?;
         src.holds("src", &self.src)?;
         if expected.is_ok() && shift == 0 && side != 32 {

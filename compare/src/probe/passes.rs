@@ -1,19 +1,8 @@
-//! The plain pass and the lane pass.
+//! The lane pass.
 
 use crate::mizdrek::{Refusal, read};
 
 unsafe extern "C" {
-    fn probe_plain(
-        side: usize,
-        kind: u32,
-        shift: i32,
-        lines: usize,
-        src: *const i32,
-        src_len: usize,
-        dst: *mut i32,
-        dst_len: usize,
-    ) -> i64;
-
     fn probe_lanes(
         side: usize,
         kind: u32,
@@ -26,21 +15,6 @@ unsafe extern "C" {
         dst: *mut i32,
         dst_len: usize,
     ) -> i64;
-}
-
-/// The plain pass, as `mizdrek::pass`.
-pub fn plain(
-    side: usize,
-    kind: u32,
-    shift: i32,
-    lines: usize,
-    src: &[i32],
-    dst: &mut [i32],
-) -> Result<usize, Refusal> {
-    // Each pointer goes with its own slice's length.
-    read(unsafe {
-        probe_plain(side, kind, shift, lines, src.as_ptr(), src.len(), dst.as_mut_ptr(), dst.len())
-    })
 }
 
 /// The lane pass over `count` lines from `start`, out of `lines` lines.

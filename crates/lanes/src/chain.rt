@@ -1,6 +1,6 @@
 // The DCT of a line by stages, each of which folds the line to half its length. A stage holds those after it, so that every length is known as it is
-// compiled and no loop is left over: Rattle computes no const argument, so one function can't call itself at half a const length, and
-// `passes::plain`, the recursion over lengths known at run time, is many times slower.
+// compiled and no loop is left over: Rattle computes no const argument, so one function can't call itself at half a const length. The recursion of
+// `passes`, over lengths known at run time, is quick only where lines are worked side by side, and a batch may have one alone.
 ghost use Rattle.std.specs.Prelude.{◌≡◌, ℕ, ◌*◌, ◌^◌, ◌<◌, length};
 ghost use Rattle.lines.specs.Line.{line_at};
 ghost use Rattle.lines.specs.Stage.{Staging, Completes};

@@ -1,4 +1,4 @@
-// The fast form of a pass: some lines from a start, each side compiled by itself, turned when stored. Before the lines, and once for all of them,
+// Some lines of a pass from a start: each side compiled by itself, turned when stored. Before the lines, and once for all of them,
 // the kernel's numbers are widened and the rounding is built.
 #![tactic(auto)]
 

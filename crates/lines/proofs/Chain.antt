@@ -1,12 +1,10 @@
 -- What a chain of stages asks at each length, and what it leaves. Assumes nothing.
 use mathlib.Core.Path.{◌≡◌, sym, ap, ◌∙◌, subst}
 use mathlib.Core.List.{List}
-use Prim.Native.Nat.{ℕ, suc, ◌+◌, ◌*◌, ◌^◌, ◌≤◌, ◌<◌}
-use native.Mathlib.Nat.{mul-one, pow-suc, mul-le-mul_left, mul-le-mul_right}
+use Prim.Native.Nat.{ℕ, suc, ◌*◌, ◌^◌, ◌≤◌, ◌<◌}
+use native.Mathlib.Nat.{mul-one, pow-suc}
 use native.Mathlib.Omega.{arith}
-use lib.Arith.{digits_lt}
 use lib.Dec.{lit<, lit≤}
-use lib.Pow.{pow_pos}
 use lib.IntN.{ℤ, pos}
 use lib.ListN.{length, get_or, take}
 use Rattle.std.proofs.lemmas.List.{get_or-take, length-take-le}
@@ -15,39 +13,23 @@ use Rattle.laws.proofs.Place.{twice}
 use Rattle.laws.proofs.Store.{length_stores, stores_ext, stores_front}
 use Rattle.kernels.specs.Mirror.{Symmetric}
 use Rattle.kernels.proofs.Mirror.{Mirrors, mirror, symmetry}
-use Rattle.lines.specs.Line.{line_at, itself, number, rounded, Halving, Halved}
+use Rattle.lines.specs.Line.{line_at, itself, number, rounded, Halved}
 use Rattle.lines.specs.Stage.{Partly, Finished, Staging, Completes}
 use Rattle.lines.specs.Table.{OddSquare, OddSquares}
-use Rattle.lines.proofs.Stage.{odd_place, begin, stage, finish}
+use Rattle.lines.proofs.Squares.{one_square}
+use Rattle.lines.proofs.Stage.{begin, stage, finish}
 
 -- a stage of twice h numbers, where h is 2 ^ d
 module _ (d h : ℕ) (power : h ≡ 2 ^ d) (few : d < 5) where
-  mirrors : Mirrors (2 * h)
+  pub mirrors : Mirrors (2 * h)
   mirrors = let e : 2 ^ suc d ≡ 2 * h = omega (arith, pow-suc 2 d, power) in subst Mirrors e (mirror d few)
 
   symmetric : Symmetric h
   symmetric = subst Symmetric (sym power) (symmetry d few)
 
-  some : 0 < h
-  some = omega (arith, power, pow_pos d)
-
   module _ (step : ℕ) {count lo : ℕ} {ts : List ℤ} (r : Staging (2 * h) step count lo ts) where
     square : OddSquare h ts
-    square = subst (λ (k : ℕ). OddSquare k ts) (sym power) (r.squares d (omega (arith, power)))
-
-    pub halving_asked : Halving h step count lo ts
-    halving_asked =
-        let b = r.some in
-        let i : 2 * h * 1 ≤ 2 * h * step = mul-le-mul_left (2 * h) b in
-        let j : 2 * 1 * step ≤ 2 * h * step = mul-le-mul_right step (let k : 2 * 1 ≤ 2 * h = omega (arith, some) in k) in
-        record {
-          some = some;
-          few = omega (arith, r.small, mul-one (2 * h));
-          twice = r.whole;
-          spaced = omega (arith, r.small);
-          square = square;
-          stored = λ q l. let e : (2 * q + 1) * step + 0 < 2 * h * step = digits_lt (omega arith) b in omega (arith, r.room, odd_place step q);
-        }
+    square = one_square d power r.squares (omega arith)
 
     pub rest_asked : {count' lo' : ℕ} → count' ≡ h → lo' ≡ lo → Staging h (2 * step) count' lo' ts
     rest_asked whole long =
@@ -100,7 +82,3 @@ spread_out h q g zeros o {y} room ey e =
     e ∙ ap (λ (n : ℕ). stores o n q (number (take h y))) (length-take-le h y long)
     ∙ stores_ext o h q (number (take h y)) g
     (λ r b. get_or-take h y r (pos 0) b ∙ ap (λ (l : List ℤ). get_or l r (pos 0)) ey ∙ stores_front zeros h g r (pos 0) b room)
-
--- the numbers of a line at the front of a longer list
-pub finished_front : {n shift : ℕ} {x : ℕ → ℤ} {o : List ℤ} → Finished n shift x o → Finished n shift x (take n o)
-finished_front {n} {shift} {x} {o} e = record { at = λ f b. get_or-take n o f (pos 0) b ∙ e.at f b }

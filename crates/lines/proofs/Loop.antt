@@ -2,10 +2,11 @@
 use mathlib.Core.Path.{◌≡◌, sym, ap, ◌∙◌, subst}
 use mathlib.Core.List.{List}
 use Prim.Native.Nat.{ℕ, ◌+◌, ◌*◌, ◌/◌, ◌%◌, ◌≤◌, ◌<◌}
-use native.Mathlib.Nat.{mul-le-mul_right, add-mul, one-mul, zero-mul, zero-add, add_assoc}
+use native.Mathlib.Nat.{mul-le-mul_right, add-mul, zero-mul, zero-add, add_assoc}
 use native.Mathlib.Omega.{arith}
 use lib.IntN.{ℤ, pos}
 use Rattle.laws.specs.Store.{stores, laid}
+use Rattle.laws.proofs.Place.{line_ends}
 use Rattle.laws.proofs.Store.{Lined, lined_none, lined_turn, lined_more, lined_length}
 use Rattle.laws.proofs.Laid.{grid_laid, stores_laid, laid_ext, laid_at}
 use lib.ListN.{length, get_or}
@@ -71,8 +72,9 @@ module _ {kind n shift lines : ℕ} {src : List ℤ} {start : ℕ} where
       → Written kind n shift lines src start start i dst dst₀ → LineRoom n lines (start + i) ls (start + i) (length dst)
   next_line {i} {count} some side r b w =
       let s = r.small in let e = r.ends in let l = same_long w in
-      let m : (i + 1) * n ≤ count * n = mul-le-mul_right n (omega arith) in
-      line_within some side r b (omega arith) (omega (arith, lines_end r, add-mul start i n, add-mul i 1 n, one-mul n))
+      let all : count * n ≤ count * n = omega arith in
+      let own : n ≤ n = omega arith in
+      line_within some side r b (omega arith) (omega (arith, line_ends i n all b own, lines_end r, add-mul start i n))
 
   pub all_lines : {i count ls : ℕ} {dst dst₀ : List ℤ} → 0 < n → PassRoom n lines start count ls (length dst₀) → i ≡ count
       → Written kind n shift lines src start start i dst dst₀ → dst ≡ pass_lines kind n shift lines src start count dst₀

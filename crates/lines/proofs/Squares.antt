@@ -113,3 +113,7 @@ one_more {d} {ts} {before} w few room =
 -- all that a line of 2 ^ e numbers reads
 pub all_squares : {e : ℕ} {ts before : List ℤ} → Widened e ts before → OddSquares (2 ^ e) ts
 all_squares {e} w d b = w.squares d (⊎_elim (λ l. l) (λ m. absurd (let p : 2 ^ e ≤ 2 ^ d = pow_mono m in omega (arith, pow_pos d))) (split d e))
+
+-- one of them
+pub one_square : (d : ℕ) {h n : ℕ} {ts : List ℤ} → h ≡ 2 ^ d → OddSquares n ts → 2 * h ≤ n → OddSquare h ts
+one_square d {ts = ts} power squares b = subst (λ (k : ℕ). OddSquare k ts) (sym power) (squares d (omega (arith, power)))

@@ -18,7 +18,7 @@ use Rattle.laws.proofs.Wrap.{wrap32_is}
 use Rattle.fixed.specs.Fixed.{round_shift}
 use Rattle.fixed.proofs.Round.{round_shift_cong}
 use Rattle.kernels.specs.Dct.{dct, dct32}
-use Rattle.kernels.specs.Mirror.{Symmetric}
+use Rattle.kernels.specs.Mirror.{Symmetric, odd_half}
 use Rattle.kernels.proofs.Dct.{dct_scale}
 use Rattle.kernels.proofs.Mirror.{Mirrors, even_kept, odd_negated}
 use Rattle.lines.specs.Stage.{dct_sum, Folded, Settled, Partly, Finished}
@@ -30,7 +30,7 @@ use Rattle.lines.specs.Line.{line_at, dot, itself, place, rounded, Butterfly, Ha
 first : (k : ℕ) → k * 1 + 0 ≡ k
 first k = omega arith
 
-pub odd_place : (s q : ℕ) → place s (2 * s) q ≡ (2 * q + 1) * s
+odd_place : (s q : ℕ) → place s (2 * s) q ≡ (2 * q + 1) * s
 odd_place s q = omega (arith, twice s q, add-mul (2 * q) 1 s, one-mul s)
 
 module _ (n h s : ℕ) (x : ℕ → ℤ) (mirrors : Mirrors (2 * h)) where
@@ -50,23 +50,22 @@ module _ (n h s : ℕ) (x : ℕ → ℤ) (mirrors : Mirrors (2 * h)) where
       odd_fold h (dct (2 * h) (2 * g + 1)) y
       (λ k l. mirrors (2 * g + 1) k (omega arith) (omega arith) ∙ odd_negated g (dct (2 * h) (2 * g + 1) k))
 
-  module _ (z : ℕ → ℤ) (ss ds : List ℤ) (f : Folded n s (2 * h) x z) (b : Butterfly h z ss ds) where
-    folded_next : Folded n (2 * s) h x (line_at ss 0 1)
+  module _ (z a d : ℕ → ℤ) (f : Folded n s (2 * h) x z) (b : Butterfly h z a d) where
+    pub folded_next : Folded n (2 * s) h x a
     folded_next =
         record {
           y = λ k. f.y k +ℤ f.y (2 * h - 1 - k);
           held = λ k l.
-              cong_trans (cong_eq (ap (λ (i : ℕ). get_or ss i (pos 0)) (first k) ∙ b.sums k l))
-              (cong_trans (wrap32_is _) (cong_add (f.held k (omega arith)) (f.held (2 * h - 1 - k) (omega arith))));
+              cong_trans (cong_eq (b.sums k l)) (cong_trans (wrap32_is _) (cong_add (f.held k (omega arith)) (f.held (2 * h - 1 - k) (omega arith))));
           rows = λ g l.
               ap (λ (i : ℕ). dct_sum n i x) (twice s g) ∙ f.rows (2 * g) (omega arith) ∙ even_row f.y g l;
         }
 
-    -- what `square_sums` computes
-    odd_is : (shift : ℕ) (ts : List ℤ) → OddSquare h ts → Symmetric h → (q : ℕ) → q < h
-        → rounded shift h ts (square_at h) (line_at ds 0 1) q ≡ round_shift shift (dct_sum n (place s (2 * s) q) x)
-    unfolding dot Symmetric
-    odd_is shift ts t symmetric q l =
+    -- an odd frequency, from the differences and its row of the odd square
+    pub odd_is : (shift : ℕ) (w : ℕ → ℤ) (q : ℕ) → q < h → ((k : ℕ) → k < h → w k ≡ odd_half h q k)
+        → round_shift shift (dot h w d) ≡ round_shift shift (dct_sum n (place s (2 * s) q) x)
+    unfolding dot
+    odd_is shift w q l factor =
         round_shift_cong shift
         (cong_trans
         (sum_cong h _ (λ k. dct (2 * h) (2 * q + 1) k *ℤ (f.y k -ℤ f.y (2 * h - 1 - k)))
@@ -76,15 +75,22 @@ module _ (n h s : ℕ) (x : ℕ → ℤ) (mirrors : Mirrors (2 * h)) where
         here : place s (2 * s) q ≡ (2 * q + 1) * s
         here = odd_place s q
 
-        factor : (k : ℕ) → k < h → line_at ts (square_at h + q) h k ≡ dct (2 * h) (2 * q + 1) k
-        factor k i =
-            let p : k * h + (square_at h + q) ≡ square_at h + (k * h + q) = omega arith in
-            ap (λ (j : ℕ). get_or ts j (pos 0)) p ∙ t.entry k q i l ∙ symmetric k q i l
-
-        difference : (k : ℕ) → k < h → Cong (2 ^ 32) (line_at ds 0 1 k) (f.y k -ℤ f.y (2 * h - 1 - k))
+        difference : (k : ℕ) → k < h → Cong (2 ^ 32) (d k) (f.y k -ℤ f.y (2 * h - 1 - k))
         difference k i =
-            cong_trans (cong_eq (ap (λ (j : ℕ). get_or ds j (pos 0)) (first k) ∙ b.diffs k i))
+            cong_trans (cong_eq (b.diffs k i))
             (cong_trans (wrap32_is _) (cong_sub (f.held k (omega arith)) (f.held (2 * h - 1 - k) (omega arith))))
+
+-- ---- the numbers of an odd square, as they are read
+
+module _ {h : ℕ} {ts : List ℤ} (t : OddSquare h ts) where
+  pub by_row : (q k : ℕ) → q < h → k < h → line_at ts (square_at h + q * h) 1 k ≡ odd_half h q k
+  by_row q k l i = let p : k * 1 + (square_at h + q * h) ≡ square_at h + (q * h + k) = omega arith in ap (λ (j : ℕ). get_or ts j (pos 0)) p ∙ t.entry q k l i
+
+  by_column : Symmetric h → (q k : ℕ) → q < h → k < h → line_at ts (square_at h + q) h k ≡ odd_half h q k
+  unfolding Symmetric
+  by_column symmetric q k l i =
+      let p : k * h + (square_at h + q) ≡ square_at h + (k * h + q) = omega arith in
+      ap (λ (j : ℕ). get_or ts j (pos 0)) p ∙ t.entry k q i l ∙ symmetric k q i l
 
 -- ---- what is settled
 
@@ -127,17 +133,11 @@ module _ (n h s shift : ℕ) (x : ℕ → ℤ) (e : n ≡ 2 * h * s) (some : 0 <
           (eq-or-lt_of_le m))
           (split r s)
 
+pub begun : (n : ℕ) (z : ℕ → ℤ) → Folded n 1 n z z
+begun n z = record { y = z; held = λ k l. cong_refl (2 ^ 32) (z k); rows = λ g l. ap (λ (i : ℕ). dct_sum n i z) (mul-one g) }
+
 pub begin : (n shift : ℕ) (z : ℕ → ℤ) (o : List ℤ) → n ≤ length o → Partly n 1 n shift z z o
-begin n shift z o long =
-    record {
-      left = record {
-        y = z;
-        held = λ k l. cong_refl (2 ^ 32) (z k);
-        rows = λ g l. ap (λ (i : ℕ). dct_sum n i z) (mul-one g);
-      };
-      settled = record { at = λ q r b c d. absurd (omega arith) };
-      long = long;
-    }
+begin n shift z o long = record { left = begun n z; settled = record { at = λ q r b c d. absurd (omega arith) }; long = long }
 
 pub stage : (h s : ℕ) {shift : ℕ} {x z : ℕ → ℤ} {o ss o' ts : List ℤ} → 0 < s
     → Mirrors (2 * h) → Symmetric h → OddSquare h ts → Partly (2 * h * s) s (2 * h) shift x z o
@@ -146,13 +146,19 @@ pub stage : (h s : ℕ) {shift : ℕ} {x z : ℕ → ℤ} {o ss o' ts : List ℤ
 stage h s {shift} {x} {z} {o} {ss} {o'} {ts} some mirrors symmetric t p f =
     let n = 2 * h * s in
     let ds = f.ds in
-    let b = f.butterfly in
     let u = f.odd in
+    let sums = line_at ss 0 1 in
+    let diffs = line_at ds 0 1 in
+    let b : Butterfly h z sums diffs =
     record {
-      left = folded_next n h s x mirrors z ss ds p.left b;
+      sums = λ k l. ap (λ (i : ℕ). get_or ss i (pos 0)) (first k) ∙ f.butterfly.sums k l;
+      diffs = λ k l. ap (λ (i : ℕ). get_or ds i (pos 0)) (first k) ∙ f.butterfly.diffs k l;
+    } in
+    record {
+      left = folded_next n h s x mirrors z sums diffs p.left b;
       settled = subst (Settled n (2 * s) shift x) (sym u)
-          (settled_next n h s shift x refl some o (rounded shift h ts (square_at h) (line_at ds 0 1)) p.long p.settled
-          (odd_is n h s x mirrors z ss ds p.left b shift ts t symmetric));
+          (settled_next n h s shift x refl some o (rounded shift h ts (square_at h) diffs) p.long p.settled
+          (λ q l. odd_is n h s x mirrors z sums diffs p.left b shift (line_at ts (square_at h + q) h) q l (λ k i. by_column t symmetric q k l i)));
       long = omega (arith, p.long, ap length u, length_stores o h (place s (2 * s)) (rounded shift h ts (square_at h) (line_at ds 0 1)));
     }
 

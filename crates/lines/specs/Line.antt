@@ -43,15 +43,15 @@ sum_of z h k = wrap32 (z k +ℤ z (2 * h - 1 - k))
 abbrev pub diff_of : (ℕ → ℤ) → ℕ → ℕ → ℤ
 diff_of z h k = wrap32 (z k -ℤ z (2 * h - 1 - k))
 
--- what `fold` leaves of a line z: h sums in ss and h differences in ds
-pub record Butterfly (h : ℕ) (z : ℕ → ℤ) (ss ds : List ℤ) : Type 0 where
-  pub sums : (k : ℕ) → k < h → get_or ss k (pos 0) ≡ sum_of z h k
-  pub diffs : (k : ℕ) → k < h → get_or ds k (pos 0) ≡ diff_of z h k
+-- what a fold leaves of a line z: h sums s and h differences d
+pub record Butterfly (h : ℕ) (z s d : ℕ → ℤ) : Type 0 where
+  pub sums : (k : ℕ) → k < h → s k ≡ sum_of z h k
+  pub diffs : (k : ℕ) → k < h → d k ≡ diff_of z h k
 
 -- what `halve` leaves of a line z: h sums in ss, and in o' the odd frequencies, from the differences ds
 pub record Halved (h step shift : ℕ) (ts : List ℤ) (z : ℕ → ℤ) (o ss o' : List ℤ) : Type 0 where
   pub ds : List ℤ
-  pub butterfly : Butterfly h z ss ds
+  pub butterfly : Butterfly h z (number ss) (number ds)
   pub odd : o' ≡ stores o h (place step (2 * step)) (rounded shift h ts (square_at h) (line_at ds 0 1))
 
 -- what `halve` asks: a line of twice as many numbers as its h sums, the odd square of h, and room in o, of length lo, for the odd frequencies

@@ -12,7 +12,7 @@ use super::wide::square_at;
 #[inline(always)]
 fn fold(line: &Line<'_>, s: &mut [i32], d: &mut [i32])
     requires { (line.now.count ≡ 2 * length s.old) × (length s.old ≤ length d.old) × (length s.old ≤ 16) }
-    ensures { Butterfly (length s.old) (line_at line.now.numbers.now line.now.at line.now.stride) s.new d.new }
+    ensures { Butterfly (length s.old) (line_at line.now.numbers.now line.now.at line.now.stride) (number s.new) (number d.new) }
 {
     let h = s.len();
     for k in 0..h {

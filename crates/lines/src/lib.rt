@@ -12,5 +12,5 @@ pub use dense::Dense;
 pub use fold::{halve, zeroth};
 pub use spaced::{Line, Source, whole};
 pub use square::Setup;
-pub use transform::{Transform, each_line, run_lines};
-pub use wide::{widen_odd_squares, widen_square};
+pub use transform::{Transform, run_lines};
+pub use wide::{square_at, widen_odd_squares, widen_square};

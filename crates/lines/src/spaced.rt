@@ -1,5 +1,5 @@
 // Where the numbers of a line lie.
-ghost use Rattle.std.specs.Prelude.{◌≡◌, ◌≤◌, length};
+ghost use Rattle.std.specs.Prelude.{◌≡◌, length};
 ghost use Rattle.lines.specs.Line.{EndsIn};
 
 use fixed::Shift;
@@ -27,7 +27,7 @@ pub fn whole(numbers: &[i32]) -> Line<'_>
     }
 }
 
-// What a pass reads: lines that lie side by side, so that number k of line j stands at place k × lines + j; and its shift.
+// What a pass reads, or a stage of one: lines that lie side by side, so that number k of line j stands at place k × lines + j; and its shift.
 #[derive(Clone, Copy)]
 pub struct Source<'a> {
     pub numbers: &'a [i32],

@@ -42,7 +42,7 @@ pub fn run_lines<T: Transform, const N: usize, const L: usize>(
 
 // Each line by itself, stored where it belongs.
 #[inline(always)]
-pub fn each_line<T: Transform>(
+fn each_line<T: Transform>(
     transform: &T,
     source: &Source<'_>,
     start: usize,

@@ -37,7 +37,7 @@ pub fn widen_square(
 
 // Where the odd square of h stands, behind those of 1, 2, 4, .. below it.
 #[inline(always)]
-pub(crate) fn square_at(h: usize) -> usize
+pub fn square_at(h: usize) -> usize
     requires { h ≤ 16 }
     ensures { result ≡ square_at h }
 {

@@ -1,4 +1,6 @@
 pub mod Accepted
-pub mod Going
+pub mod Abreast
+pub mod Stages
+pub mod Turned
 pub mod Unshifted
 pub mod Examples

@@ -1,7 +1,8 @@
-// A pass as a call, and its plain form.
+// A pass as a call.
 #![tactic(auto)]
 
-mod stages;
+mod fold;
+mod rows;
 
 ghost use Rattle.std.specs.Prelude.{◌≡◌, true, pos, length, IfOk};
 ghost use Rattle.answer.specs.Answer.{told};
@@ -16,9 +17,8 @@ ghost use Rattle.passes.specs.Admitted.{admitted};
 use answer::{Outcome, Refusal};
 use fixed::Shift;
 use kernels::Kind;
-use lines::{Setup, Source, each_line, widen_odd_squares};
+use lines::Source;
 use sizes::Size;
-use stages::Plain;
 
 // A pass that may run: as many numbers a line as w and as many lines as h, its kind and its shift.
 #[derive(Clone, Copy)]
@@ -69,52 +69,17 @@ pub fn pass(
         lines,
         shift: pass.shift,
     };
-    let size = pass.size.places();
-    lanes::run(side, pass.kind, &source, 0, lines, dst);
-    Ok(size)
+    run(side, pass.kind, &source, dst);
+    Ok(pass.size.places())
 }
 
-// Every line of a pass, with one DCT for every side. An ADST has no plainer form than its dense sums.
-fn run_plain(side: usize, kind: Kind, source: &Source<'_>, lines: usize, dst: &mut [i32])
-    requires { (is_side side ≡ true) × (has_kernel (kind_number kind) side ≡ true) × PassRoom side source.now.lines 0 lines (length source.now.numbers.now) (length dst.old) }
-    ensures { dst.new ≡ pass_lines (kind_number kind) side source.now.shift.bits source.now.lines source.now.numbers.now 0 lines dst.old }
+// Every line of a pass. An ADST has no fold: its sums are dense, as the lanes make them.
+fn run(side: usize, kind: Kind, source: &Source<'_>, dst: &mut [i32])
+    requires { (is_side side ≡ true) × (is_side source.now.lines ≡ true) × (has_kernel (kind_number kind) side ≡ true) × PassRoom side source.now.lines 0 source.now.lines (length source.now.numbers.now) (length dst.old) }
+    ensures { dst.new ≡ pass_lines (kind_number kind) side source.now.shift.bits source.now.lines source.now.numbers.now 0 source.now.lines dst.old }
 {
     match kind {
-        Kind::Dct => {
-            let mut wide = [0i32; 341];
-            widen_odd_squares(sizes::log2(side), &mut wide);
-            let plain = Plain {
-                n: side,
-                setup: Setup {
-                    numbers: &wide,
-                    rounding: source.shift.rounding(),
-                },
-            };
-            each_line(&plain, source, 0, lines, dst)
-        }
-        Kind::Adst => lanes::run(side, kind, source, 0, lines, dst),
+        Kind::Dct => fold::dct(side, source, dst),
+        Kind::Adst => lanes::run(side, kind, source, 0, source.lines, dst),
     }
-}
-
-// A pass as `pass` makes it, with one DCT for every side. A function of both that takes the run as a closure would have to say of it what the contract of `run_plain`
-// says, and would be no plainer.
-pub fn plain(
-    side: usize,
-    kind: u32,
-    shift: i32,
-    lines: usize,
-    src: &[i32],
-    dst: &mut [i32],
-) -> Outcome
-    ensures result_value { told result ≡ pass_answer side kind shift lines (length src.now) (length dst.old) }
-    ensures dst_after { dst.new ≡ pass_after side kind shift lines src.now dst.old }
-{
-    let pass = admit(side, kind, shift, lines, src.len(), dst.len())?;
-    let source = Source {
-        numbers: src,
-        lines,
-        shift: pass.shift,
-    };
-    run_plain(side, pass.kind, &source, lines, dst);
-    Ok(pass.size.places())
 }

@@ -3,8 +3,8 @@ use mathlib.Core.Path.{◌≡◌, sym, ap, ap₂, ◌∙◌}
 use mathlib.Core.Bool.{true, false, false≢true}
 use mathlib.Core.Logic.{◌⊎◌, inl, inr, ⊎_elim}
 use mathlib.Core.List.{List}
-use Prim.Native.Nat.{ℕ, suc, ◌+◌, ◌-◌, ◌*◌, ◌/◌, ◌%◌, ◌<◌, ◌≤◌}
-use native.Mathlib.Nat.{mul_comm, suc-mul, mul-one, mul-le-mul_left, mul-le-mul_right, add-mul, mod-lt, div-add-mod', div-lt_iff_lt-mul}
+use Prim.Native.Nat.{ℕ, ◌+◌, ◌-◌, ◌*◌, ◌/◌, ◌%◌, ◌<◌, ◌≤◌}
+use native.Mathlib.Nat.{mul_comm, mul-one, mul-le-mul_left, mul-le-mul_right, add-mul, mod-lt, div-add-mod', div-lt_iff_lt-mul}
 use native.Mathlib.Omega.{arith}
 use lib.Arith.{digits_lt, digits_div, digits_mod}
 use lib.IntN.{ℤ, pos}
@@ -16,7 +16,7 @@ use Rattle.laws.specs.Store.{stores, grid, laid}
 use Rattle.laws.proofs.Bool.{both, decided}
 use Rattle.laws.proofs.Laid.{laid_before, laid_at, laid_after}
 use Rattle.laws.proofs.Pasted.{copied}
-use Rattle.laws.proofs.Place.{split, place_same}
+use Rattle.laws.proofs.Place.{line_ends, split, place_same}
 use Rattle.laws.proofs.Store.{stores_ext, length_grid, grid_in, grid_out}
 use Rattle.tickets.specs.Mark.{is_among}
 use Rattle.tickets.proofs.Mark.{among_lt}
@@ -33,11 +33,10 @@ pub record InRow (w width x y i lb lo : ℕ) : Type 0 where
 pub in_row : (w count width x y i lb lo : ℕ) → 1 ≤ w → count * w ≤ lb → x + w ≤ width → (y + count) * width ≤ lo → i < count
     → InRow w width x y i lb lo
 in_row w count width x y i lb lo some a b c l =
-    let one : i * w + w ≤ count * w = omega (arith, suc-mul i w, mul-le-mul_right {m = suc i} {n = count} w l) in
-    let two : (y + i) * width + width ≤ (y + count) * width =
-    omega (arith, suc-mul (y + i) width, mul-le-mul_right {m = suc (y + i)} {n = y + count} width (omega arith)) in
+    let all : width ≤ width = omega arith in
+    let two : (y + i) * width + width ≤ lo = line_ends (y + i) width c (omega arith) all in
     record {
-      source = omega arith;
+      source = let own : w ≤ w = omega arith in line_ends i w a l own;
       target = omega arith;
       low = omega (arith, mul-one (y + i), mul-le-mul_left {m = 1} {n = width} (y + i) (omega arith));
     }

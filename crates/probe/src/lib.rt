@@ -1,12 +1,11 @@
-// What the comparison with the Rust looks at and the C interface leaves out: the kernel tables, the shifts, the plain pass and the lane passes. All is by
-// numbers, as C hands them over.
+// What the comparison with the Rust looks at and the C interface leaves out: the kernel tables, the shifts and the lane passes. All is by numbers, as C
+// hands them over.
 #![tactic(auto)]
 
 ghost use Rattle.std.specs.Prelude.{◌≡◌, length};
 ghost use Rattle.kernels.specs.Dct.{dct32};
 ghost use Rattle.kernels.specs.Kernel.{by_sample};
 ghost use Rattle.answer.specs.Answer.{signed_of, told};
-ghost use Rattle.passes.specs.Call.{pass_answer, pass_after};
 ghost use Rattle.probe.specs.Lanes.{lanes_answer, lanes_after};
 ghost use Rattle.probe.specs.Shifts.{shift_pair};
 
@@ -54,22 +53,6 @@ pub extern "C" fn probe_shifts(w: usize, h: usize) -> u32
     };
     let shifts = size.shifts();
     shifts.first.bits * 16 + shifts.second.bits
-}
-
-// The plain pass.
-#[unsafe(no_mangle)]
-pub extern "C" fn probe_plain(
-    side: usize,
-    kind: u32,
-    shift: i32,
-    lines: usize,
-    src: &[i32],
-    dst: &mut [i32],
-) -> i64
-    ensures value { result ≡ signed_of (pass_answer side kind shift lines (length src.now) (length dst.old)) }
-    ensures dst_after { dst.new ≡ pass_after side kind shift lines src.now dst.old }
-{
-    answer::signed(passes::plain(side, kind, shift, lines, src, dst))
 }
 
 // The lane pass: count lines from start on, of a pass of this many lines. It answers the count.
