@@ -8,7 +8,7 @@ use Rattle.laws.specs.Sum.{sum_ℕ}
 use Rattle.format.specs.Pieces.{number_at, width_of, height_of}
 use Rattle.format.proofs.Parse.{length_some}
 use Rattle.format.specs.Format.{width_in, height_in, bit_in, places_in, count_in, list_in, listed_in, length_in, is_bad, record_answer}
-use Rattle.look.specs.Look.{listed_count, listed_sum, are_right}
+use Rattle.look.specs.Look.{listed_count, listed_sum, are_right, unless_cut}
 use Rattle.format.proofs.Listed.{standing_le}
 use Rattle.format.proofs.Sides.{sized_in}
 
@@ -95,3 +95,13 @@ module _ (low : ℕ) (s : List ℕ) (whole : length_in s ≤ length s) where
 pub sum_is : (s : List ℕ) {count m : ℕ} → count ≡ listed_count s → m ≡ sum_ℕ count (λ i. nat_abs (listed_in s i)) → m ≡ listed_sum s
 unfolding listed_sum
 sum_is s e f = f ∙ ap (λ (n : ℕ). sum_ℕ n (λ i. nat_abs (listed_in s i))) e
+
+-- ---- what is counted in a refused record
+
+-- in one that is cut
+pub cut_none : (s : List ℕ) (n : ℕ) {m : ℕ} → length s + 1 ≤ length_in s → m ≡ 0 → m ≡ unless_cut s n
+cut_none s n h e = rw (e, lt-ltb (length s) (length_in s) (omega arith))
+
+-- in one that is whole
+pub whole_all : (s : List ℕ) {m n : ℕ} → length_in s ≤ length s → m ≡ n → m ≡ unless_cut s n
+whole_all s h e = rw (e, le-ltb (length s) (length_in s) h)

@@ -1,10 +1,10 @@
 -- A look through bytes: what is found in them, as an answer and as blocks, and what one record lists.
-use Rattle.std.specs.Prelude.{ℕ, ◌*◌, Bool, ◌&&◌, List, [], length, unsigned_abs}
+use Rattle.std.specs.Prelude.{ℕ, ◌*◌, Bool, cond, ◌&&◌, List, [], length, unsigned_abs}
 use Rattle.laws.specs.Sum.{sum_ℕ, sum_of}
 use Rattle.laws.specs.Table.{every}
 use Rattle.answer.specs.Answer.{Answer, answers, refuses}
 use Rattle.format.specs.Pieces.{stands, is_near}
-use Rattle.format.specs.Format.{Block, places_in, count_in, listed_in, Found, blocks, damage}
+use Rattle.format.specs.Format.{Block, places_in, count_in, listed_in, is_cut, Found, blocks, damage}
 
 -- ---- all records
 
@@ -37,3 +37,7 @@ listed_sum s = sum_ℕ (listed_count s) (λ i. unsigned_abs (listed_in s i))
 -- whether the first n are nonzero and "within 2^30 of zero". No public contract mentions it
 abbrev pub are_right : List ℕ → ℕ → Bool
 are_right s n = every n (λ i. stands (listed_in s i) && is_near (listed_in s i))
+
+-- what is counted in it, 0 where the bytes end inside it. No public contract mentions it
+abbrev pub unless_cut : List ℕ → ℕ → ℕ
+unless_cut s n = cond (is_cut s) 0 n

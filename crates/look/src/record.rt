@@ -4,7 +4,7 @@ ghost use Rattle.answer.specs.Answer.{answers, refuses, number_of};
 ghost use Rattle.answer.specs.declared.Refusal.TheVariants.{CutRecord};
 ghost use Rattle.format.specs.Pieces.{number_at, width_of, height_of};
 ghost use Rattle.format.specs.Format.{width_in, height_in, places_in, count_in, length_in, record_answer};
-ghost use Rattle.look.specs.Look.{are_right, listed_count, listed_sum};
+ghost use Rattle.look.specs.Look.{are_right, listed_count, listed_sum, unless_cut};
 
 use super::levels::Levels;
 use super::{bytes, levels};
@@ -106,25 +106,58 @@ pub struct Record {
     pub magnitude: u64,
 }
 
+// Why a record is refused, and what is counted in it all the same: how many levels it lists, and the sum of their magnitudes. Where the bytes end
+// inside it, it counts as one without levels.
+#[derive(Clone, Copy)]
+pub struct Damaged {
+    pub why: Refusal,
+    pub levels: usize,
+    pub magnitude: u64,
+}
+
+impl Damaged {
+    #[inline(always)]
+    fn new(why: Refusal, levels: usize, magnitude: u64) -> Damaged
+        ensures { (result.why ≡ why) × (result.levels ≡ levels) × (result.magnitude ≡ magnitude) }
+    {
+        Damaged {
+            why,
+            levels,
+            magnitude,
+        }
+    }
+}
+
+impl From<Damaged> for Refusal {
+    ghost from_gives = { λ d why. why ≡ d.why };
+
+    fn from(damaged: Damaged) -> Refusal {
+        damaged.why
+    }
+}
+
 // A record, if it is whole and right, and its number low or more.
-#[tactic(auto, using(crate::proofs::Looked::says_cut, crate::proofs::Looked::whole_some, crate::proofs::Looked::says_side, crate::proofs::Looked::says_levels, crate::proofs::Looked::says_order, crate::proofs::Looked::says_right, crate::proofs::Looked::sum_is))]
-pub fn check_record(low: u64, s: &[u8]) -> Result<Record, Refusal>
-    ensures { MatchResult result (λ r. (answers r.length ≡ record_answer low s.now) × (r.number ≡ number_at s.now 0) × (r.places ≡ places_in s.now) × (r.levels ≡ listed_count s.now) × (r.magnitude ≡ listed_sum s.now)) (λ why. refuses (number_of why) ≡ record_answer low s.now) }
+#[tactic(auto, using(crate::proofs::Looked::says_cut, crate::proofs::Looked::whole_some, crate::proofs::Looked::says_side, crate::proofs::Looked::says_levels, crate::proofs::Looked::says_order, crate::proofs::Looked::says_right, crate::proofs::Looked::sum_is, crate::proofs::Looked::cut_none, crate::proofs::Looked::whole_all))]
+pub fn check_record(low: u64, s: &[u8]) -> Result<Record, Damaged>
+    ensures { MatchResult result (λ r. (answers r.length ≡ record_answer low s.now) × (r.number ≡ number_at s.now 0) × (r.places ≡ places_in s.now) × (r.levels ≡ listed_count s.now) × (r.magnitude ≡ listed_sum s.now)) (λ d. (refuses (number_of d.why) ≡ record_answer low s.now) × (d.levels ≡ unless_cut s.now (listed_count s.now)) × (d.magnitude ≡ unless_cut s.now (listed_sum s.now))) }
 {
-    let count = count_listed(s)?;
+    let count = match count_listed(s) {
+        Ok(count) => count,
+        Err(why) => return Err(Damaged::new(why, 0, 0)),
+    };
     let record = Whole { bytes: s };
     let places = record.places();
     let list = 5 + places / 8;
-    if s[4] >= 16 {
-        return Err(Refusal::BadRecord);
-    }
     let sum = levels::sum_levels(s, list, count);
+    if s[4] >= 16 {
+        return Err(Damaged::new(Refusal::BadRecord, count, sum.magnitude));
+    }
     if !sum.right {
-        return Err(Refusal::BadRecord);
+        return Err(Damaged::new(Refusal::BadRecord, count, sum.magnitude));
     }
     let number = record.number();
     if u64::from(number) < low {
-        return Err(Refusal::RecordOrder);
+        return Err(Damaged::new(Refusal::RecordOrder, count, sum.magnitude));
     }
     Ok(Record {
         number,

@@ -86,7 +86,9 @@ pub fn admit(
     Ok(shape)
 }
 
-// A batch: source is the residuals and target the scratch buffer for columns, the scratch buffer and the output for rows.
+// A batch: source is the residuals and target the scratch buffer for columns, the scratch buffer and the output for rows. Inlined, since each of C's two
+// calls runs batches of one kind.
+#[inline(always)]
 #[tactic(auto, unfolding(crate::specs::Batch::batch))]
 pub fn run(ticket: Ticket, b: Batch, source: &[i32], target: &mut [i32]) -> Batched
     ensures { gives result target.new ≡ batch ticket b source.now target.old }

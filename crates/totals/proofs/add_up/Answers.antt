@@ -1,5 +1,6 @@
 -- `totals::add_up` meets its contract. Assumes nothing.
-use Rattle.std.proofs.Common.{◌∙◌, rules, arith}
+use Rattle.std.proofs.Common.{◌∙◌, arith}
+use Rattle.std.proofs.lemmas.Result.{err_from_is_err_and}
 use Rattle.look.proofs.Looks.{told_room}
 use Rattle.totals.proofs.Added.{added_none, added_more, added_small, says_totals, says_damage, says_long}
 use Rattle.totals.proofs.add_up.Goals as goal
@@ -12,7 +13,9 @@ loop-at-init c = added_none c.args.bytes.now
 
 pub returns-in_err-record : goal.returns-in_err-record
 returns-in_err-record c =
-    let h = says_damage c.loop-at.invariant c.loop-at-test.true (omega arith) c.in_err-record.field-0.0 c.in_err-record.ensures in search (rules, h)
+    let why = c.in_err-record.field-0.0.why in
+    let p = err_from_is_err_and c.from_residual.result c.from_residual.ensures.1 in
+    rw (p.1, p.2) (says_damage c.loop-at.invariant c.loop-at-test.true (omega arith) why c.in_err-record.ensures.0)
 
 pub overflow_add-totals : goal.overflow_add-totals
 overflow_add-totals c =

@@ -1,11 +1,14 @@
 -- `look::file::check_records` meets its contract. Assumes nothing.
-use Rattle.std.proofs.Common.{rules, arith}
+use Rattle.std.proofs.Common.{arith}
+use Rattle.std.proofs.lemmas.Result.{err_from_is_err_and}
 use Rattle.look.proofs.Looks.{looks_damage, looks_all, looks_few, told_room}
 use Rattle.look.proofs.file.check_records.Goals as goal
 
 pub returns-in_err-record : goal.returns-in_err-record
 returns-in_err-record c =
-    let h = looks_damage c.loop-at.invariant c.loop-at-test.true c.in_err-record.field-0.0 c.in_err-record.ensures in search (rules, h)
+    let why = c.in_err-record.field-0.0.why in
+    let p = err_from_is_err_and c.from_residual.result c.from_residual.ensures.1 in
+    rw (p.1, p.2) (looks_damage c.loop-at.invariant c.loop-at-test.true why c.in_err-record.ensures.0)
 
 pub overflow_add-places : goal.overflow_add-places
 overflow_add-places c =
