@@ -24,7 +24,7 @@ pub fn check_records(bytes: &[u8]) -> Result<Checked, Refusal>
     let mut places = 0;
     // An iterator over the records took 1.37 of the time.
     while at < bytes.len() {
-        let record = record::check_record(low, &bytes[at..])?;
+        let record = record::judge_record(low, &bytes[at..])?;
         low = u64::from(record.number) + 1;
         places += record.places;
         blocks += 1;

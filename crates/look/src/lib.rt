@@ -10,4 +10,4 @@ mod record;
 pub use bytes::{number_at, of_word};
 pub use file::{Checked, check_records};
 pub use levels::Levels;
-pub use record::{Damaged, Record, Whole, check_record, size_of};
+pub use record::{Damaged, Record, Whole, check_record, judge_record, size_of};

@@ -136,9 +136,9 @@ impl From<Damaged> for Refusal {
     }
 }
 
-// A record, if it is whole and right, and its number low or more.
+// A record, if it is whole and right, and its number low or more; else why not, and what is counted in it.
 #[tactic(auto, using(crate::proofs::Looked::says_cut, crate::proofs::Looked::whole_some, crate::proofs::Looked::says_side, crate::proofs::Looked::says_levels, crate::proofs::Looked::says_order, crate::proofs::Looked::says_right, crate::proofs::Looked::sum_is, crate::proofs::Looked::cut_none, crate::proofs::Looked::whole_all))]
-pub fn check_record(low: u64, s: &[u8]) -> Result<Record, Damaged>
+pub fn judge_record(low: u64, s: &[u8]) -> Result<Record, Damaged>
     ensures { MatchResult result (λ r. (answers r.length ≡ record_answer low s.now) × (r.number ≡ number_at s.now 0) × (r.places ≡ places_in s.now) × (r.levels ≡ listed_count s.now) × (r.magnitude ≡ listed_sum s.now)) (λ d. (refuses (number_of d.why) ≡ record_answer low s.now) × (d.levels ≡ unless_cut s.now (listed_count s.now)) × (d.magnitude ≡ unless_cut s.now (listed_sum s.now))) }
 {
     let count = match count_listed(s) {
@@ -166,4 +166,36 @@ pub fn check_record(low: u64, s: &[u8]) -> Result<Record, Damaged>
         levels: count,
         magnitude: sum.magnitude,
     })
+}
+
+// The same, with the refusal alone.
+pub fn check_record(low: u64, s: &[u8]) -> Result<Record, Refusal>
+    ensures { MatchResult result (λ r. (answers r.length ≡ record_answer low s.now) × (r.number ≡ number_at s.now 0) × (r.places ≡ places_in s.now) × (r.levels ≡ listed_count s.now) × (r.magnitude ≡ listed_sum s.now)) (λ why. refuses (number_of why) ≡ record_answer low s.now) }
+{
+    Ok(judge_record(low, s)?)
+}
+
+#[cfg(test)]
+mod tests {
+    use super::check_record;
+
+    // Block 7, of 4×4, whose third level is -5; two bytes more, which aren't the record's.
+    const BYTES: [u8; 13] = [7, 0, 0, 0, 0, 4, 0, 251, 255, 255, 255, 9, 9];
+
+    // The same with a bit above the lower four of its side byte.
+    const UPPER: [u8; 11] = [7, 0, 0, 0, 16, 4, 0, 251, 255, 255, 255];
+
+    // Number, places, length, levels and sum of magnitudes, or the number of the refusal.
+    fn told(low: u64, s: &[u8]) -> Result<(u32, usize, usize, usize, u64), u32> {
+        let r = check_record(low, s)?;
+        Ok((r.number, r.places, r.length, r.levels, r.magnitude))
+    }
+
+    #[test]
+    fn checks_a_record(rt: HostRuntime) {
+        assert_eq!(rt; told(7, &BYTES), Ok((7, 16, 11, 1, 5)));
+        assert_eq!(rt; told(7, &BYTES[..10]), Err(10));
+        assert_eq!(rt; told(7, &UPPER), Err(11));
+        assert_eq!(rt; told(8, &BYTES), Err(12));
+    }
 }

@@ -33,7 +33,7 @@ pub fn add_up(bytes: &[u8]) -> Result<Totals, Refusal>
     let mut at = 0;
     // An iterator over the records took 1.44 of the time.
     while at < bytes.len() {
-        let record = look::check_record(low, &bytes[at..])?;
+        let record = look::judge_record(low, &bytes[at..])?;
         totals.blocks += 1;
         totals.levels += record.levels as u64;
         totals.magnitude += record.magnitude;

@@ -1,7 +1,7 @@
--- `look::record::check_record` meets its contract. Assumes nothing.
+-- `look::record::judge_record` meets its contract. Assumes nothing.
 use Rattle.std.proofs.Common.{arith}
 use Rattle.look.proofs.Looked.{listed_room}
-use Rattle.look.proofs.record.check_record.Goals as goal
+use Rattle.look.proofs.record.judge_record.Goals as goal
 
 pub sum_levels-sum-requires : goal.sum_levels-sum-requires
 sum_levels-sum-requires c = let h = c.in-Ok.ensures in listed_room c.args.s.now c.places-places.ensures h.1 h.0
